@@ -1,0 +1,19 @@
+// Powers of two and lowest bits. The laws of numbers, bits and lists that every crate may cite stand in proofs/.
+ghost use mathlib.Core.Path.{_≡_};
+ghost use Prim.Native.Nat.{_^_, _<_};
+ghost use lib.Count.{trailingZeros};
+
+// 2 to the power i.
+pub fn power(i: usize) -> usize
+    requires { ⌜ i < 64 ⌝ }
+    ensures { λ r. ⌜ r ≡ 2 ^ i ⌝ }
+{
+    1usize << i
+}
+
+// The place of the lowest set bit, from 0; 64 for x = 0.
+pub fn lowest_bit(x: usize) -> usize
+    ensures { λ r. ⌜ r ≡ trailingZeros 64 x ⌝ }
+{
+    usize::trailing_zeros(x) as usize
+}

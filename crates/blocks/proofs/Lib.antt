@@ -1,0 +1,3 @@
+pub mod BlockLaws
+pub mod PartLaws
+pub mod XorBytes

@@ -1,0 +1,55 @@
+-- The bytewise XOR of blocks: like the XOR of numbers, byte by byte.
+-- Assumes nothing.
+use mathlib.Core.Path.{_≡_, refl, sym, ap, ap₂, _∙_}
+use mathlib.Core.List.{List, [], _∷_}
+use Prim.Native.Nat.{ℕ, zero, suc, _<_}
+use native.Mathlib.Nat.{le-of-suc-le-suc, not-suc-le-zero}
+use native.Mathlib.Omega.{arith}
+use lib.ListN.{length, getD, replicate}
+use lib.Bits.{bitXor, xor-comm, xor-self, xor-zero-r}
+use Rattle.base.proofs.Xor.{xor-assoc}
+use Rattle.blocks.specs.Blocks.{xorBytes}
+
+pub length-xorBytes : (a b : List ℕ) → length a ≡ length b → length (xorBytes a b) ≡ length a
+unfolding xorBytes
+length-xorBytes [] b h = refl
+length-xorBytes (x ∷ xs) [] h = sym h
+length-xorBytes (x ∷ xs) (y ∷ ys) h = ap suc (length-xorBytes xs ys (omega arith))
+
+pub getD-xorBytes : (a b : List ℕ) (i : ℕ) → i < length a → i < length b → getD (xorBytes a b) i 0 ≡ bitXor (getD a i 0) (getD b i 0)
+unfolding xorBytes
+getD-xorBytes [] b i h k = absurd (not-suc-le-zero h)
+getD-xorBytes (x ∷ xs) [] i h k = absurd (not-suc-le-zero k)
+getD-xorBytes (x ∷ xs) (y ∷ ys) zero h k = refl
+getD-xorBytes (x ∷ xs) (y ∷ ys) (suc i) h k = getD-xorBytes xs ys i (le-of-suc-le-suc h) (le-of-suc-le-suc k)
+
+pub xorBytes-comm : (a b : List ℕ) → xorBytes a b ≡ xorBytes b a
+unfolding xorBytes
+xorBytes-comm [] [] = refl
+xorBytes-comm [] (y ∷ ys) = refl
+xorBytes-comm (x ∷ xs) [] = refl
+xorBytes-comm (x ∷ xs) (y ∷ ys) = ap₂ _∷_ (xor-comm x y) (xorBytes-comm xs ys)
+
+pub xorBytes-assoc : (a b c : List ℕ) → xorBytes (xorBytes a b) c ≡ xorBytes a (xorBytes b c)
+unfolding xorBytes
+xorBytes-assoc [] b c = refl
+xorBytes-assoc (x ∷ xs) [] c = refl
+xorBytes-assoc (x ∷ xs) (y ∷ ys) [] = refl
+xorBytes-assoc (x ∷ xs) (y ∷ ys) (z ∷ zs) = ap₂ _∷_ (xor-assoc x y z) (xorBytes-assoc xs ys zs)
+
+pub xorBytes-self : (a : List ℕ) → xorBytes a a ≡ replicate (length a) 0
+unfolding xorBytes
+xorBytes-self [] = refl
+xorBytes-self (x ∷ xs) = ap₂ _∷_ (xor-self x) (xorBytes-self xs)
+
+pub xorBytes-zeros : (a : List ℕ) → xorBytes a (replicate (length a) 0) ≡ a
+unfolding xorBytes
+xorBytes-zeros [] = refl
+xorBytes-zeros (x ∷ xs) = ap₂ _∷_ (xor-zero-r x) (xorBytes-zeros xs)
+
+pub zeros-xorBytes : (a : List ℕ) → xorBytes (replicate (length a) 0) a ≡ a
+zeros-xorBytes a = xorBytes-comm (replicate (length a) 0) a ∙ xorBytes-zeros a
+
+-- the two in the middle change places
+pub xorBytes-middle : (a b c d : List ℕ) → xorBytes (xorBytes a b) (xorBytes c d) ≡ xorBytes (xorBytes a c) (xorBytes b d)
+xorBytes-middle a b c d = simp xorBytes-assoc (ap (xorBytes a) (sym (xorBytes-assoc b c d) ∙ rw (xorBytes-comm b c) (xorBytes-assoc c b d)))

@@ -1,0 +1,24 @@
+-- Blocks of a nodes buffer (document 01, "The collection's units"), and the bytewise XOR of two blocks. L is any length.
+use Prim.Native.Nat.{ℕ, _+_, _-_, _*_, _≤_}
+use mathlib.Core.List.{List, [], _∷_, _++_}
+use lib.ListN.{length, take, drop}
+use lib.Bits.{bitXor}
+
+-- the bytewise XOR of two blocks of one length
+unfoldable pub xorBytes : List ℕ → List ℕ → List ℕ
+xorBytes [] ys = []
+xorBytes (x ∷ xs) [] = []
+xorBytes (x ∷ xs) (y ∷ ys) = bitXor x y ∷ xorBytes xs ys
+
+-- node j's block: the part of the nodes buffer from (j − 1) × L up to j × L
+unfoldable pub blockOf : ℕ → List ℕ → ℕ → List ℕ
+blockOf L nodes j = take L (drop ((j - 1) * L) nodes)
+
+-- the nodes buffer with another block for node j
+unfoldable pub withBlock : ℕ → List ℕ → ℕ → List ℕ → List ℕ
+withBlock L nodes j block = take ((j - 1) * L) nodes ++ (block ++ drop ((j - 1) * L + L) nodes)
+
+-- node j's block lies in the nodes buffer
+pub record InBuffer (L : ℕ) (nodes : List ℕ) (j : ℕ) : Type 0 where
+  pub first : 1 ≤ j
+  pub last : (j - 1) * L + L ≤ length nodes

@@ -1,0 +1,108 @@
+-- What a list of checks gives: the number of a check where its condition is met and no earlier one is, and nowhere else.
+-- Assumes nothing.
+use mathlib.Core.Path.{_≡_, refl, ap}
+use mathlib.Core.Bool.{Bool, true, false, _&&_, _||_, true≢false, false≢true}
+use mathlib.Core.List.{List, [], _∷_, _++_}
+use Prim.Native.Nat.{ℕ, zero, suc, _≤_, _<_}
+use native.Mathlib.Omega.{arith}
+use borrow.Author.Tests.{ltb-false, lt-ltb, le-ltb}
+use lib.Dec.{ltb}
+use Rattle.base.proofs.Tests.{or-neither, and-right}
+use Rattle.families.specs.Families.{familyOf, leastK, mostK, KInRange}
+use Rattle.checks.specs.Checks.{Check, _gives_, firstMet}
+use Rattle.checks.specs.Parameters.{mostL, outside, parameterChecks}
+
+-- no condition of the list is met
+abbrev pub NoneMet : List Check → Type 0
+NoneMet [] = Unit {0}
+NoneMet ((met gives number) ∷ checks) = (met ≡ false) × NoneMet checks
+
+-- where no earlier condition is met, the number of one that is met is given
+pub given : (earlier : List Check) (number : ℕ) (later : List Check) → NoneMet earlier → firstMet (earlier ++ (true gives number) ∷ later) ≡ number
+unfolding firstMet
+given [] number later none = refl
+given ((true gives n) ∷ earlier) number later none = absurd (true≢false (none .0))
+given ((false gives n) ∷ earlier) number later none = given earlier number later (none .1)
+
+-- a number other than 0 that is given is that of a check that is met, after checks that are not
+pub record Given (checks : List Check) (number : ℕ) : Type 0 where
+  pub earlier : List Check
+  pub later : List Check
+  pub none : NoneMet earlier
+  pub is : checks ≡ earlier ++ (true gives number) ∷ later
+
+pub only-given : (checks : List Check) (r : ℕ) → firstMet checks ≡ suc r → Given checks (suc r)
+unfolding firstMet
+only-given [] r e = absurd (omega arith)
+only-given ((true gives n) ∷ checks) r e = record { earlier = []; later = checks; none = tt; is = ap (λ (x : ℕ). (true gives x) ∷ checks) e }
+only-given ((false gives n) ∷ checks) r e =
+    let g = only-given checks r e in
+    record { earlier = (false gives n) ∷ g .earlier; later = g .later; none = (refl, g .none); is = ap (λ (x : List Check). (false gives n) ∷ x) (g .is) }
+
+-- every number of the list is above 0, so that 0 says that none is met
+abbrev pub numbered : List Check → Bool
+numbered [] = true
+numbered ((met gives number) ∷ checks) = ltb 0 number && numbered checks
+
+pub accepted : (checks : List Check) → numbered checks ≡ true → firstMet checks ≡ 0 → NoneMet checks
+unfolding firstMet
+accepted [] n e = tt
+accepted ((true gives zero) ∷ checks) n e = absurd (false≢true n)
+accepted ((true gives suc r) ∷ checks) n e = absurd (omega arith)
+accepted ((false gives r) ∷ checks) n e = (refl, accepted checks (and-right (ltb 0 r) (numbered checks) n) e)
+
+-- two lists, one after the other
+pub none-append : (checks later : List Check) → NoneMet checks → firstMet (checks ++ later) ≡ firstMet later
+unfolding firstMet
+none-append [] later none = refl
+none-append ((true gives n) ∷ checks) later none = absurd (true≢false (none .0))
+none-append ((false gives n) ∷ checks) later none = none-append checks later (none .1)
+
+pub some-append : (checks later : List Check) → (firstMet checks ≡ 0 → ⊥) → firstMet (checks ++ later) ≡ firstMet checks
+unfolding firstMet
+some-append [] later n = absurd (n refl)
+some-append ((true gives r) ∷ checks) later n = refl
+some-append ((false gives r) ∷ checks) later n = some-append checks later n
+
+-- ---- 1 to 3
+
+pub outside-low : (least most number : ℕ) → number < least → outside least most number ≡ true
+outside-low least most number h = rw (lt-ltb number least h)
+
+pub outside-high : (least most number : ℕ) → most < number → outside least most number ≡ true
+outside-high least most number h = or-true (ltb number least) (ltb most number) (lt-ltb most number h)
+  where
+    or-true : (a b : Bool) → b ≡ true → (a || b) ≡ true
+    or-true true b e = refl
+    or-true false b e = e
+
+pub outside-no : (least most number : ℕ) → least ≤ number → number ≤ most → outside least most number ≡ false
+outside-no least most number h g = simp (le-ltb number least h, le-ltb most number g)
+
+pub inside : (least most number : ℕ) → outside least most number ≡ false → (least ≤ number) × (number ≤ most)
+inside least most number h =
+    let n = or-neither (ltb number least) (ltb most number) h in
+    (ltb-false number least (n .0), ltb-false most number (n .1))
+
+-- the family, k and L are in range
+pub record InRange (family k L : ℕ) : Type 0 where
+  pub first : 1 ≤ family
+  pub last : family ≤ 3
+  pub blocks : KInRange (familyOf family) k
+  pub some : 1 ≤ L
+  pub most : L ≤ mostL
+
+pub parameters-none : (family k L : ℕ) → firstMet (parameterChecks family k L) ≡ 0 → NoneMet (parameterChecks family k L)
+unfolding parameterChecks
+parameters-none family k L e = accepted (parameterChecks family k L) refl e
+
+pub range-of : (family k L : ℕ) → NoneMet (parameterChecks family k L) → InRange family k L
+unfolding parameterChecks
+range-of family k L n =
+    let f = inside 1 3 family (n .0) in
+    let b = inside (leastK (familyOf family)) (mostK (familyOf family)) k (n .1 .0) in
+    let l = inside 1 mostL L (n .1 .1 .0) in
+    record { first = f .0; last = f .1; blocks = record { least = b .0; most = b .1 }; some = l .0; most = l .1 }
+
+pub in-range : (family k L : ℕ) → firstMet (parameterChecks family k L) ≡ 0 → InRange family k L
+in-range family k L e = range-of family k L (parameters-none family k L e)

@@ -1,0 +1,67 @@
+-- What encode answers, check by check, and what that leaves in the nodes buffer.
+-- Assumes nothing.
+use mathlib.Core.Path.{_≡_, refl, _∙_}
+use mathlib.Core.List.{List, [], _∷_}
+use Prim.Native.Nat.{ℕ, _*_, _≤_}
+use native.Mathlib.Nat.{mul-le-mul}
+use native.Mathlib.Omega.{arith}
+use borrow.Author.Tests.{eq-eqb, ne-eqb, eqb-true, not-false}
+use lib.ListN.{length}
+use Rattle.families.specs.Families.{familyOf, nodeCount}
+use Rattle.families.proofs.Laws.{few, short}
+use Rattle.checks.specs.Checks.{firstMet}
+use Rattle.checks.specs.Parameters.{parameterChecks}
+use Rattle.checks.proofs.Laws.{InRange, in-range, range-of, accepted, parameters-none, none-append, some-append}
+use Rattle.encoding.specs.Matrix.{nodesBuffer}
+use Rattle.encoding.specs.Encode.{encodeChecks, encodeAnswer, encoded}
+
+-- the lengths that are compared are small
+pub object-small : (family k L : ℕ) → firstMet (parameterChecks family k L) ≡ 0 → k * L ≤ 90112
+object-small family k L e = let r = in-range family k L e in mul-le-mul {n₂ = 22} {m₂ = 4096} (short (familyOf family) k (r .blocks) .1) (r .most)
+
+pub nodes-small : (family k L : ℕ) → firstMet (parameterChecks family k L) ≡ 0 → nodeCount (familyOf family) k * L ≤ 1044480
+nodes-small family k L e = let r = in-range family k L e in mul-le-mul {n₂ = 255} {m₂ = 4096} (few (familyOf family) k (r .blocks)) (r .most)
+
+module _ (family k L object nodes : ℕ) where
+  abbrev n : ℕ
+  n = nodeCount (familyOf family) k
+
+  pub by-parameters : (firstMet (parameterChecks family k L) ≡ 0 → ⊥) → firstMet (encodeChecks family k L object nodes) ≡ firstMet (parameterChecks family k L)
+  unfolding encodeChecks
+  by-parameters h = some-append (parameterChecks family k L) _ h
+
+  module _ (e : firstMet (parameterChecks family k L) ≡ 0) where
+    pub by-object : (object ≡ k * L → ⊥) → firstMet (encodeChecks family k L object nodes) ≡ 6
+    unfolding encodeChecks firstMet
+    by-object h = none-append (parameterChecks family k L) _ (parameters-none family k L e) ∙ simp (ne-eqb object (k * L) h)
+
+    pub by-nodes : object ≡ k * L → (nodes ≡ n * L → ⊥) → firstMet (encodeChecks family k L object nodes) ≡ 6
+    unfolding encodeChecks firstMet
+    by-nodes h g = none-append (parameterChecks family k L) _ (parameters-none family k L e) ∙ simp (eq-eqb object (k * L) h, ne-eqb nodes (n * L) g)
+
+    pub by-none : object ≡ k * L → nodes ≡ n * L → firstMet (encodeChecks family k L object nodes) ≡ 0
+    unfolding encodeChecks firstMet
+    by-none h g = none-append (parameterChecks family k L) _ (parameters-none family k L e) ∙ simp (eq-eqb object (k * L) h, eq-eqb nodes (n * L) g)
+
+-- ---- the nodes buffer
+
+module _ (family k L : ℕ) (object nodes : List ℕ) where
+  pub kept : (encodeAnswer family k L object nodes ≡ 0 → ⊥) → nodes ≡ encoded family k L object nodes
+  unfolding encoded
+  kept h = simp (ne-eqb (encodeAnswer family k L object nodes) 0 h)
+
+  pub written : encodeAnswer family k L object nodes ≡ 0 → nodesBuffer (familyOf family) k L object ≡ encoded family k L object nodes
+  unfolding encoded
+  written e = rw e
+
+  -- what an accepted call has been given
+  pub record Accepted : Type 0 where
+    pub range : InRange family k L
+    pub object-size : length object ≡ k * L
+    pub nodes-size : length nodes ≡ nodeCount (familyOf family) k * L
+
+  pub accepted-call : encodeAnswer family k L object nodes ≡ 0 → Accepted
+  unfolding encodeAnswer encodeChecks parameterChecks
+  accepted-call e =
+      let n = accepted (encodeChecks family k L (length object) (length nodes)) refl e in
+      record { range = range-of family k L (n .0, (n .1 .0, (n .1 .1 .0, tt))); object-size = eqb-true _ _ (not-false _ (n .1 .1 .1 .0)); nodes-size = eqb-true _ _ (not-false _ (n .1 .1 .1 .1 .0)) }

@@ -1,0 +1,5 @@
+pub mod First
+pub mod PairLaws
+pub mod TetrahedronLaws
+pub mod Laws
+pub mod TableLaws

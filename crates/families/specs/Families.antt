@@ -1,0 +1,95 @@
+-- The three code families (document 01, "Families"): the range of k, the number of nodes, each node's column, the node of
+-- a column, and which nodes are related.
+use Prim.Native.Nat.{ℕ, zero, suc, _+_, _-_, _*_, _/_, _^_, _≤_}
+use mathlib.Core.Bool.{Bool, cond, _&&_}
+use mathlib.Core.List.{List, [], _∷_}
+use lib.ListN.{getD}
+use lib.Bits.{bitXor}
+use lib.Dec.{eqb, leb, ltb}
+use Rattle.families.specs.declared.Family.{Family}
+use Rattle.families.specs.declared.Family.the-variants.{Simplex, WeightTwo, Tetrahedron}
+
+-- the family of a number: 1 simplex, 2 weight-two, 3 tetrahedron
+abbrev pub familyOf : ℕ → Family
+familyOf number = cond (eqb number 1) Simplex (cond (eqb number 2) WeightTwo Tetrahedron)
+
+-- the least k of a family
+abbrev pub leastK : Family → ℕ
+leastK Simplex = 2
+leastK WeightTwo = 2
+leastK Tetrahedron = 4
+
+-- the largest k of a family
+abbrev pub mostK : Family → ℕ
+mostK Simplex = 8
+mostK WeightTwo = 22
+mostK Tetrahedron = 4
+
+-- k is in its family's range
+pub record KInRange (f : Family) (k : ℕ) : Type 0 where
+  pub least : leastK f ≤ k
+  pub most : k ≤ mostK f
+
+-- n, the number of nodes
+unfoldable pub nodeCount : Family → ℕ → ℕ
+nodeCount Simplex k = 2 ^ k - 1
+nodeCount WeightTwo k = k * (k + 1) / 2
+nodeCount Tetrahedron k = 14
+
+-- j is a node's number: 1 to n
+pub record IsNode (f : Family) (k j : ℕ) : Type 0 where
+  pub first : 1 ≤ j
+  pub last : j ≤ nodeCount f k
+
+-- Weight-two. A data block's node counts as the pair of no block, 0, and its block, so the nodes are all the pairs a < b of
+-- the numbers 0 to k, by a and then b. Where the row of the smaller number, a, has m pairs, here are the two numbers of the
+-- pair at a place, from 0: the first m have a for the smaller, and those after them are the pairs of one number fewer.
+unfoldable pub smallerAt : ℕ → ℕ → ℕ
+smallerAt zero place = 0
+smallerAt (suc m) place = cond (ltb place (suc m)) 0 (suc (smallerAt m (place - suc m)))
+
+unfoldable pub largerAt : ℕ → ℕ → ℕ
+largerAt zero place = 0
+largerAt (suc m) place = cond (ltb place (suc m)) (suc place) (suc (largerAt m (place - suc m)))
+
+-- the column of data block i alone, 2^(i − 1), and 0 for no block
+abbrev pub unit : ℕ → ℕ
+unit zero = 0
+unit (suc i) = 2 ^ i
+
+-- document 01's number of the pair i < j: `pair-column` of proofs/PairLaws.antt shows that the columns have this order
+abbrev pub pairNode : ℕ → ℕ → ℕ → ℕ
+pairNode k i j = k + (i - 1) * (2 * k - i) / 2 + (j - i)
+
+-- the columns of the tetrahedron, node 1 first (document 002, matrix 7)
+abbrev pub tetrahedron : List ℕ
+tetrahedron = 1 ∷ 2 ∷ 4 ∷ 8 ∷ 5 ∷ 3 ∷ 6 ∷ 7 ∷ 10 ∷ 12 ∷ 14 ∷ 9 ∷ 11 ∷ 13 ∷ []
+
+-- node j's column
+unfoldable pub columnOf : Family → ℕ → ℕ → ℕ
+columnOf Simplex k j = j
+columnOf WeightTwo k j = unit (smallerAt k (j - 1)) + unit (largerAt k (j - 1))
+columnOf Tetrahedron k j = getD tetrahedron (j - 1) 0
+
+-- the first of the numbers j, j + 1, .., of which there are m, that passes the test; 0 where none does
+unfoldable pub firstFrom : (ℕ → Bool) → ℕ → ℕ → ℕ
+firstFrom test j zero = 0
+firstFrom test j (suc m) = let later = firstFrom test (suc j) m in cond (test j) j later
+
+-- the node with a column; 0 where there is no such node
+unfoldable pub nodeOf : Family → ℕ → ℕ → ℕ
+nodeOf f k column = firstFrom (λ j. eqb (columnOf f k j) column) 1 (nodeCount f k)
+
+-- three nodes are related: the XOR of their columns is 0
+unfoldable pub areRelated : Family → ℕ → ℕ → ℕ → ℕ → Bool
+areRelated f k a b c = eqb (bitXor (bitXor (columnOf f k a) (columnOf f k b)) (columnOf f k c)) 0
+
+module _ {A : Type 0} where
+  -- g j, g (j + 1), .., m of them
+  unfoldable pub listFrom : (ℕ → A) → ℕ → ℕ → List A
+  listFrom g j zero = []
+  listFrom g j (suc m) = g j ∷ listFrom g (suc j) m
+
+-- the columns by node number, 0 to 255: 0 for node 0 and above n, where there is no node
+unfoldable pub columnTable : Family → ℕ → List ℕ
+columnTable f k = listFrom (λ j. cond (leb 1 j && leb j (nodeCount f k)) (columnOf f k j) 0) 0 256

@@ -1,0 +1,118 @@
+// Weight-two: the nodes are the pairs a < b of the numbers 0 to k, by a and then b; a = 0 stands for no block, so the first
+// k are the data blocks.
+ghost use mathlib.Core.Path.{_≡_};
+ghost use mathlib.Core.Bool.{cond};
+ghost use lib.Dec.{eqb};
+ghost use Prim.Native.Nat.{ℕ, _+_, _-_, _*_, _/_, _^_, _≤_, _<_};
+ghost use Rattle.families.specs.Families.{KInRange, IsNode, unit, pairNode, nodeCount, columnOf, nodeOf, columnTable};
+ghost use Rattle.families.specs.declared.Family.the-variants.{WeightTwo};
+
+// A pair, of which the first number is the smaller.
+struct Pair {
+    smaller: usize,
+    larger: usize,
+}
+
+// How many pairs there are.
+pub fn count(k: usize) -> usize
+    requires { ⌜ k ≤ 22 ⌝ }
+    ensures { λ r. ⌜ r ≡ nodeCount WeightTwo k ⌝ }
+{
+    k * (k + 1) / 2
+}
+
+// The column of data block i alone; 0 for i = 0, no block.
+fn unit_column(i: usize) -> usize
+    requires { ⌜ i ≤ 22 ⌝ }
+    ensures { λ r. ⌜ r ≡ unit i ⌝ }
+{
+    if i == 0 {
+        return 0;
+    }
+    base::power(i - 1)
+}
+
+// Node j's column: the row of its smaller number is found, each row being one pair shorter than the row before.
+pub fn column(k: usize, j: usize) -> usize
+    requires { ⌜ KInRange WeightTwo k ⌝ }
+    requires { ⌜ IsNode WeightTwo k j ⌝ }
+    ensures { λ r. ⌜ r ≡ columnOf WeightTwo k j ⌝ }
+{
+    let mut smaller: usize = 0;
+    let mut row = k;
+    let mut place = j - 1;
+    while row <= place {
+        place -= row;
+        row -= 1;
+        smaller += 1;
+    }
+    unit_column(smaller) + unit_column(smaller + 1 + place)
+}
+
+// The number of the pair i < j.
+fn pair_node(k: usize, i: usize, j: usize) -> usize
+    requires { ⌜ (1 ≤ i) × (i < j) × (j ≤ k) × (k ≤ 22) ⌝ }
+    ensures { λ r. ⌜ r ≡ pairNode k i j ⌝ }
+{
+    k + (i - 1) * (2 * k - i) / 2 + (j - i)
+}
+
+// The node with this column: its lowest bit and what is left are each a data block's, or the column is no node's.
+pub fn node_of(k: usize, column: usize) -> usize
+    requires { ⌜ KInRange WeightTwo k ⌝ }
+    ensures { λ r. ⌜ r ≡ nodeOf WeightTwo k column ⌝ }
+{
+    if base::power(k) <= column {
+        return 0;
+    }
+    if column == 0 {
+        return 0;
+    }
+    let low = base::lowest_bit(column);
+    let rest = column - base::power(low);
+    if rest == 0 {
+        return low + 1;
+    }
+    let high = base::lowest_bit(rest);
+    if rest != base::power(high) {
+        return 0;
+    }
+    pair_node(k, low + 1, high + 1)
+}
+
+// The pair after this one: one to the right in its row, or the first of the next row.
+fn next_pair(k: usize, pair: Pair) -> Pair
+    requires { ⌜ (pair .smaller ≤ 22) × (pair .larger ≤ 22) ⌝ }
+    ensures { λ r. ⌜ r ≡ cond (eqb (pair .larger) k) (record { smaller = pair .smaller + 1; larger = pair .smaller + 2 }) (record { smaller = pair .smaller; larger = pair .larger + 1 }) ⌝ }
+{
+    if pair.larger == k {
+        return Pair {
+            smaller: pair.smaller + 1,
+            larger: pair.smaller + 2,
+        };
+    }
+    Pair {
+        smaller: pair.smaller,
+        larger: pair.larger + 1,
+    }
+}
+
+// All columns by node number, going from each pair to the next.
+pub fn columns(k: usize) -> [usize; 256]
+    requires { ⌜ KInRange WeightTwo k ⌝ }
+    ensures { λ r. ⌜ r ≡ columnTable WeightTwo k ⌝ }
+{
+    let n = count(k);
+    let mut table = [0usize; 256];
+    let mut pair = Pair {
+        smaller: 0,
+        larger: 1,
+    };
+    let mut j: usize = 0;
+    while j < n {
+        j += 1;
+        table[j] = unit_column(pair.smaller) + unit_column(pair.larger);
+        pair = next_pair(k, pair);
+    }
+    table
+}
