@@ -1,26 +1,28 @@
 -- The blocks of the nodes, one after the other.
 -- Assumes nothing.
 use mathlib.Core.Path.{_≡_, refl, sym, ap, _∙_}
+use mathlib.Core.Bool.{true}
 use mathlib.Core.List.{List, [], _++_}
 use mathlib.Core.Logic.{⊎-elim}
 use Prim.Native.Nat.{ℕ, zero, suc, _+_, _-_, _*_, _^_, _≤_, _<_}
 use native.Mathlib.Nat.{zero-mul, suc-mul, mul-le-mul-right, eq-or-lt-of-le, le-of-suc-le-suc}
 use native.Mathlib.Omega.{arith}
-use lib.Bits.{xor-comm}
+use borrow.Author.Tests.{eqb-true}
+use lib.Bits.{bitXor, xor-comm}
 use lib.Count.{trailingZeros}
 use lib.Pow.{pow-mono}
-use lib.ListN.{length, take, drop, length-append}
+use lib.ListN.{length, take, drop, replicate, length-append}
 use lib.Seq.{take-all, drop-at}
 use Rattle.families.specs.declared.Family.{Family}
-use Rattle.families.specs.Families.{columnOf, nodeOf, nodeCount}
+use Rattle.families.specs.Families.{IsNode, columnOf, nodeOf, nodeCount, areRelated}
 use Rattle.families.proofs.Laws.{column, short, Before, sources, node-of, lowBit}
 use Rattle.base.proofs.LowestBit.{Lowest, lowest}
 use Rattle.blocks.specs.Blocks.{xorBytes, blockOf, withBlock, InBuffer}
 use Rattle.blocks.proofs.BlockLaws.{block-fits, in-buffer, take-through, blockOf-take}
 use Rattle.blocks.proofs.PartLaws.{mid-front}
-use Rattle.encoding.specs.Matrix.{dataBlock, nodeBlock, nodeBlocks}
+use Rattle.encoding.specs.Matrix.{dataBlock, nodeBlock, nodeBlocks, nodesBuffer}
 use Rattle.encoding.specs.Progress.{BeforeNode}
-use Rattle.encoding.proofs.Linear.{length-nodeBlock, node-block-unit, node-block-xor}
+use Rattle.encoding.proofs.Linear.{length-nodeBlock, node-block-unit, node-block-xor, node-block-related, node-block-related-zero}
 
 module _ (f : Family) (k L : ℕ) (object : List ℕ) (h : length object ≡ k * L) where
   pub length-nodeBlocks : (m : ℕ) → length (nodeBlocks f k L object m) ≡ m * L
@@ -97,3 +99,21 @@ module _ {f : Family} {k L : ℕ} {object nodes : List ℕ} {j : ℕ} (b : Befor
       let s = sources f k j (b .range) (b .node) z in
       rw (earlier (lowBit c) (s .low), earlier (c - lowBit c) (s .rest))
       (sym (node-block-xor k L object (b .object-size) (lowBit c) (c - lowBit c)) ∙ ap (nodeBlock k L object) (xor-comm (lowBit c) (c - lowBit c) ∙ low .joined))
+
+-- related nodes' blocks: each is the XOR of the other two, and the three XOR to zero
+module _ (f : Family) (k L : ℕ) (object : List ℕ) (h : length object ≡ k * L) (a b c : ℕ) (r : areRelated f k a b c ≡ true) where
+  columns-cancel : bitXor (bitXor (columnOf f k a) (columnOf f k b)) (columnOf f k c) ≡ 0
+  unfolding areRelated
+  columns-cancel = eqb-true _ 0 r
+
+  pub related-block : nodeBlock k L object (columnOf f k c) ≡ xorBytes (nodeBlock k L object (columnOf f k a)) (nodeBlock k L object (columnOf f k b))
+  related-block = node-block-related k L object h (columnOf f k a) (columnOf f k b) (columnOf f k c) columns-cancel
+
+  pub related-zero : xorBytes (xorBytes (nodeBlock k L object (columnOf f k a)) (nodeBlock k L object (columnOf f k b))) (nodeBlock k L object (columnOf f k c)) ≡ replicate L 0
+  related-zero = node-block-related-zero k L object h (columnOf f k a) (columnOf f k b) (columnOf f k c) columns-cancel
+
+-- node j's block of the nodes buffer is what the matrix gives
+pub buffer-block : (f : Family) (k L : ℕ) (object : List ℕ) → length object ≡ k * L → (j : ℕ) → IsNode f k j
+    → blockOf L (nodesBuffer f k L object) j ≡ nodeBlock k L object (columnOf f k j)
+unfolding nodesBuffer
+buffer-block f k L object h j n = block-of-nodes f k L object h (nodeCount f k) j (n .first) (n .last)

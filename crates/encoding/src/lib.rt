@@ -1,6 +1,5 @@
 // Encoding: the nodes buffer from an object, by the generator matrix.
 use families::Family;
-
 ghost use mathlib.Core.Path.{_≡_};
 ghost use Prim.Native.Nat.{ℕ, _+_, _*_, _≤_};
 ghost use lib.ListN.{length};
@@ -42,7 +41,15 @@ fn copy_data_block(len: usize, object: &[u8], i: usize, nodes: &mut [u8], j: usi
 
 // Node j's block, from those of the nodes before it: a data block is copied, and any other node is the XOR of the data
 // block of its column's lowest bit and the node of the bits above, both of which come before it.
-fn encode_node(family: Family, k: usize, len: usize, object: &[u8], nodes: &mut [u8], j: usize, column: usize)
+fn encode_node(
+    family: Family,
+    k: usize,
+    len: usize,
+    object: &[u8],
+    nodes: &mut [u8],
+    j: usize,
+    column: usize,
+)
     requires { ⌜ BeforeNode family k len (now object) (now nodes) j ⌝ }
     requires { ⌜ column ≡ columnOf family k j ⌝ }
     ensures { λ _. ⌜ now (nodes .exit) ≡ withBlock len (now (nodes .entry)) j (nodeBlock k len (now (object .entry)) column) ⌝ }
@@ -67,10 +74,10 @@ fn encode_nodes(family: Family, k: usize, len: usize, object: &[u8], nodes: &mut
 {
     let n = families::node_count(family, k);
     let columns = families::columns(family, k);
-    let mut j: usize = 0;
-    while j < n {
-        j += 1;
+    let mut j: usize = 1;
+    while j <= n {
         encode_node(family, k, len, object, nodes, j, columns[j]);
+        j += 1;
     }
 }
 

@@ -66,9 +66,10 @@ xor-block-requires c κs =
     let p = c .before .before .before .before .before .before .before .before .pre .0 in
     let s = sources _ _ _ (p .range) (p .node) (more (c .before .before .before)) in
     let a = low-node (c .before .before) in
-    let b = rest-node (c .before) in
-    ((inside p _ (p .node .first) (omega arith), rw a (inside p _ (s .low .first) (omega (arith, s .low .before))), rw b (inside p _ (s .rest .first) (omega (arith, s .rest .before)))),
-     ((λ e. omega (arith, a, e, s .low .before)), (λ e. omega (arith, b, e, s .rest .before))))
+    let b = rest-node (c .before) in (
+      (inside p _ (p .node .first) (omega arith), rw a (inside p _ (s .low .first) (omega (arith, s .low .before))), rw b (inside p _ (s .rest .first) (omega (arith, s .rest .before)))),
+      ((λ e. omega (arith, a, e, s .low .before)), (λ e. omega (arith, b, e, s .rest .before))),
+    )
 
 returns-2 : tie.Need-returns-2
 returns-2 c =

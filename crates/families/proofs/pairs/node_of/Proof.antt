@@ -92,10 +92,10 @@ returns-4 c =
     sym (more-bits _ _ (l .range) (l .positive) (l .small) (m .more) (λ e. c .if4 .taken (ap (λ (x : ℕ). c .before .before .before .before .before .before .before .before .before .args .column - x) (bit-is (c .before .before .before .before)) ∙ e ∙ sym b)))
 
 add-pair-node : tie.Need-add-pair-node
-add-pair-node c = omega (arith, known (c .before .before .before .before .before) .within, known (c .before .before .before .before .before) .range .most)
+add-pair-node c = omega (arith, known (c .before .before .before .before .before) .within, more (c .before .before) .within, known (c .before .before .before .before .before) .range .most)
 
 add-pair-node-2 : tie.Need-add-pair-node-2
-add-pair-node-2 c = omega (arith, more (c .before .before) .within, known (c .before .before .before .before .before) .range .most)
+add-pair-node-2 c = omega (arith, known (c .before .before .before .before .before) .within, more (c .before .before) .within, known (c .before .before .before .before .before) .range .most)
 
 pair-node-requires : tie.Need-pair-node-requires
 pair-node-requires c κs =

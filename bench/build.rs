@@ -1,0 +1,5 @@
+// The static library is linked by `compare`; ISA-L is Debian's.
+fn main() {
+    println!("cargo:rustc-link-lib=dylib=isal");
+    println!("cargo:rerun-if-changed=build.rs");
+}

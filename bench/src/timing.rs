@@ -1,0 +1,64 @@
+//! Times of several ways to fill one buffer.
+use std::hint::black_box;
+use std::time::Instant;
+
+/// Fills a nodes buffer from an object.
+pub type Way<'a> = &'a dyn Fn(&[u8], &mut [u8]);
+
+/// A buffer that starts at a multiple of 64.
+pub struct Aligned {
+    bytes: Vec<u8>,
+    start: usize,
+    len: usize,
+}
+
+impl Aligned {
+    pub fn zeros(len: usize) -> Aligned {
+        let bytes = vec![0; len + 63];
+        let start = bytes.as_ptr().align_offset(64);
+        Aligned { bytes, start, len }
+    }
+
+    pub fn holding(content: &[u8]) -> Aligned {
+        let mut buffer = Aligned::zeros(content.len());
+        buffer.bytes_mut().copy_from_slice(content);
+        buffer
+    }
+
+    pub fn bytes(&self) -> &[u8] {
+        &self.bytes[self.start..self.start + self.len]
+    }
+
+    pub fn bytes_mut(&mut self) -> &mut [u8] {
+        &mut self.bytes[self.start..self.start + self.len]
+    }
+}
+
+// Runs behind one reading of the clock.
+const RUNS: u32 = 4;
+
+/// The microseconds of a run, by way, in rising order. The ways take turns, and each round begins with
+/// another, so that what slows the machine down slows all of them.
+pub fn measure(rounds: usize, ways: &[Way], object: &[u8], nodes: &mut [u8]) -> Vec<Vec<f64>> {
+    let mut times = vec![Vec::with_capacity(rounds); ways.len()];
+    for round in 0..rounds {
+        for turn in 0..ways.len() {
+            let i = (round + turn) % ways.len();
+            times[i].push(time(ways[i], object, nodes));
+        }
+    }
+    for of_way in &mut times {
+        of_way.sort_by(f64::total_cmp);
+    }
+    times
+}
+
+fn time(way: Way, object: &[u8], nodes: &mut [u8]) -> f64 {
+    // once without the clock, so that the caches hold what this way needs
+    way(black_box(object), nodes);
+    let start = Instant::now();
+    for _ in 0..RUNS {
+        way(black_box(object), black_box(nodes));
+    }
+    start.elapsed().as_secs_f64() * 1e6 / f64::from(RUNS)
+}
