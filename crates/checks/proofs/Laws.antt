@@ -1,6 +1,6 @@
 -- What a list of checks gives: the number of a check where its condition is met and no earlier one is, and nowhere else.
 -- Assumes nothing.
-use mathlib.Core.Path.{_≡_, refl, ap}
+use mathlib.Core.Path.{_≡_, refl, ap, _∙_}
 use mathlib.Core.Bool.{Bool, true, false, _&&_, _||_, true≢false, false≢true}
 use mathlib.Core.List.{List, [], _∷_, _++_}
 use Prim.Native.Nat.{ℕ, zero, suc, _≤_, _<_}
@@ -10,34 +10,27 @@ use lib.Dec.{ltb}
 use Rattle.base.proofs.Tests.{or-neither, and-right}
 use Rattle.families.specs.Families.{familyOf, leastK, mostK, KInRange}
 use Rattle.checks.specs.Checks.{Check, _gives_, firstMet}
+use Rattle.checks.specs.Claims.{NoneMet, Due, ChecksClaim}
 use Rattle.checks.specs.Parameters.{mostL, outside, parameterChecks}
 
--- no condition of the list is met
-abbrev pub NoneMet : List Check → Type 0
-NoneMet [] = Unit {0}
-NoneMet ((met gives number) ∷ checks) = (met ≡ false) × NoneMet checks
-
 -- where no earlier condition is met, the number of one that is met is given
-pub given : (earlier : List Check) (number : ℕ) (later : List Check) → NoneMet earlier → firstMet (earlier ++ (true gives number) ∷ later) ≡ number
+given : (earlier : List Check) (number : ℕ) (later : List Check) → NoneMet earlier → firstMet (earlier ++ (true gives number) ∷ later) ≡ number
 unfolding firstMet
 given [] number later none = refl
 given ((true gives n) ∷ earlier) number later none = absurd (true≢false (none .0))
 given ((false gives n) ∷ earlier) number later none = given earlier number later (none .1)
 
--- a number other than 0 that is given is that of a check that is met, after checks that are not
-pub record Given (checks : List Check) (number : ℕ) : Type 0 where
-  pub earlier : List Check
-  pub later : List Check
-  pub none : NoneMet earlier
-  pub is : checks ≡ earlier ++ (true gives number) ∷ later
-
-pub only-given : (checks : List Check) (r : ℕ) → firstMet checks ≡ suc r → Given checks (suc r)
+-- a number other than 0 is given only so
+only : (checks : List Check) (r : ℕ) → firstMet checks ≡ suc r → Due checks (suc r)
 unfolding firstMet
-only-given [] r e = absurd (omega arith)
-only-given ((true gives n) ∷ checks) r e = record { earlier = []; later = checks; none = tt; is = ap (λ (x : ℕ). (true gives x) ∷ checks) e }
-only-given ((false gives n) ∷ checks) r e =
-    let g = only-given checks r e in
+only [] r e = absurd (omega arith)
+only ((true gives n) ∷ checks) r e = record { earlier = []; later = checks; none = tt; is = ap (λ (x : ℕ). (true gives x) ∷ checks) e }
+only ((false gives n) ∷ checks) r e =
+    let g = only checks r e in
     record { earlier = (false gives n) ∷ g .earlier; later = g .later; none = (refl, g .none); is = ap (λ (x : List Check). (false gives n) ∷ x) (g .is) }
+
+pub checks-claim : ChecksClaim
+checks-claim = record { given = λ checks number d. ap firstMet (d .is) ∙ given (d .earlier) number (d .later) (d .none); only = only }
 
 -- every number of the list is above 0, so that 0 says that none is met
 abbrev pub numbered : List Check → Bool

@@ -1,3 +1,4 @@
 pub mod Linear
 pub mod Nodes
 pub mod Answers
+pub mod Proved

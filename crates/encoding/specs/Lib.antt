@@ -1,3 +1,4 @@
 pub mod Matrix
 pub mod Progress
 pub mod Encode
+pub mod Claims

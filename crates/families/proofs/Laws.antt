@@ -104,11 +104,17 @@ module _ (f : Family) (k : ℕ) (r : KInRange f k) where
       record { is-node = record { first = h; last = omega (arith, g .below) }; has = eqb-true _ c (g .passes) }
 
   -- three related nodes differ
-  pub related-differ : (a b c : ℕ) → IsNode f k a → IsNode f k b → IsNode f k c → areRelated f k a b c ≡ true → a ≡ b → ⊥
+  pub related-differ : (a b c : ℕ) → IsNode f k c → areRelated f k a b c ≡ true → a ≡ b → ⊥
   unfolding areRelated
-  related-differ a b c na nb nc h e =
+  related-differ a b c nc h e =
       let z : columnOf f k c ≡ bitXor (columnOf f k a) (columnOf f k b) = xor-third (columnOf f k a) (columnOf f k b) (columnOf f k c) (eqb-true _ 0 h) in
       omega (arith, column f k c r nc .positive, z ∙ ap (λ (x : ℕ). bitXor (columnOf f k a) (columnOf f k x)) (sym e) ∙ xor-self (columnOf f k a))
+
+-- the relation, with the first node moved to the end
+pub related-turn : (f : Family) (k a b c : ℕ) → areRelated f k a b c ≡ true → areRelated f k b c a ≡ true
+unfolding areRelated
+related-turn f k a b c h =
+    eq-eqb _ 0 (xor-comm (bitXor (columnOf f k b) (columnOf f k c)) (columnOf f k a) ∙ sym (xor-assoc (columnOf f k a) (columnOf f k b) (columnOf f k c)) ∙ eqb-true _ 0 h)
 
 -- ---- the two earlier nodes whose XOR a node is, where it holds more than one data block
 

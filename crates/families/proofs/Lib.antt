@@ -3,3 +3,4 @@ pub mod PairLaws
 pub mod TetrahedronLaws
 pub mod Laws
 pub mod TableLaws
+pub mod Proved

@@ -9,7 +9,7 @@ use lib.Dec.{eqb, leb, ltb}
 use Rattle.families.specs.declared.Family.{Family}
 use Rattle.families.specs.declared.Family.the-variants.{Simplex, WeightTwo, Tetrahedron}
 
--- the family of a number: 1 simplex, 2 weight-two, 3 tetrahedron
+-- the family of a number: 1 simplex, 2 weight-two, 3 tetrahedron; any other is refused before it is asked
 abbrev pub familyOf : ℕ → Family
 familyOf number = cond (eqb number 1) Simplex (cond (eqb number 2) WeightTwo Tetrahedron)
 
@@ -57,7 +57,7 @@ abbrev pub unit : ℕ → ℕ
 unit zero = 0
 unit (suc i) = 2 ^ i
 
--- document 01's number of the pair i < j: `pair-column` of proofs/PairLaws.antt shows that the columns have this order
+-- document 01's number of the pair i < j; that the columns have this order is a claim of Claims.antt
 abbrev pub pairNode : ℕ → ℕ → ℕ → ℕ
 pairNode k i j = k + (i - 1) * (2 * k - i) / 2 + (j - i)
 
