@@ -18,6 +18,16 @@ pub fn copy_block(dst: &mut [u8], src: &[u8])
     }
 }
 
+// Block b of the target becomes block a of the source.
+pub fn copy_between(len: usize, source: &[u8], a: usize, target: &mut [u8], b: usize)
+    requires { ⌜ InBuffer len (now source) a × InBuffer len (now target) b ⌝ }
+    ensures { λ _. ⌜ now (target .exit) ≡ withBlock len (now (target .entry)) b (blockOf len (now (source .entry)) a) ⌝ }
+{
+    let from = (a - 1) * len;
+    let to = (b - 1) * len;
+    copy_block(&mut target[to..to + len], &source[from..from + len]);
+}
+
 // The XOR of two parts of 64 bytes, by value: it stays in registers on its way to its place.
 fn xor_chunk(a: &[u8], b: &[u8]) -> [u8; 64]
     requires { ⌜ (length (now a) ≡ 64) × (length (now b) ≡ 64) ⌝ }

@@ -5,7 +5,7 @@ use mathlib.Core.Bool.{true}
 use mathlib.Core.List.{List, [], _++_}
 use mathlib.Core.Logic.{⊎-elim}
 use Prim.Native.Nat.{ℕ, zero, suc, _+_, _-_, _*_, _^_, _≤_, _<_}
-use native.Mathlib.Nat.{zero-mul, suc-mul, mul-le-mul-right, eq-or-lt-of-le, le-of-suc-le-suc}
+use native.Mathlib.Nat.{zero-mul, suc-mul, eq-or-lt-of-le, le-of-suc-le-suc}
 use native.Mathlib.Omega.{arith}
 use borrow.Author.Tests.{eqb-true}
 use lib.Bits.{bitXor, xor-comm}
@@ -62,6 +62,11 @@ module _ (f : Family) (k L : ℕ) (object : List ℕ) (h : length object ≡ k *
       let p : suc j * L ≡ (suc j - 1) * L + L = suc-mul j L ∙ rw q in
       rw p (take-through L nodes (suc j) (nodeBlock k L object (columnOf f k (suc j))) i (length-nodeBlock k L object h (columnOf f k (suc j))) ∙ rw (e, q))
 
+-- data block i + 1 is block i + 1 of the object
+pub data-block : (L : ℕ) (object : List ℕ) (i : ℕ) → dataBlock L object i ≡ blockOf L object (i + 1)
+unfolding dataBlock blockOf
+data-block L object i = let e : i + 1 - 1 ≡ i = omega arith in rw e
+
 -- node j's block from those of the nodes before it, which are in place
 module _ {f : Family} {k L : ℕ} {object nodes : List ℕ} {j : ℕ} (b : BeforeNode f k L object nodes j) where
   abbrev c : ℕ
@@ -81,11 +86,13 @@ module _ {f : Family} {k L : ℕ} {object nodes : List ℕ} {j : ℕ} (b : Befor
   pub inside : (i : ℕ) → 1 ≤ i → i ≤ j → InBuffer L nodes i
   inside i l g = in-buffer L nodes (nodeCount f k) i (b .nodes-size) l (omega (arith, b .node .last))
 
-  pub data-fits : trailingZeros 64 c * L + L ≤ length object
-  data-fits = rw (b .object-size, ← suc-mul (trailingZeros 64 c) L) (mul-le-mul-right L low-within)
+  pub data-inside : InBuffer L object (trailingZeros 64 c + 1)
+  data-inside = in-buffer L object k (trailingZeros 64 c + 1) (b .object-size) (omega arith) (omega (arith, low-within))
 
-  pub from-data : c - lowBit c ≡ 0 → dataBlock L object (trailingZeros 64 c) ≡ nodeBlock k L object c
-  from-data z = sym (ap (nodeBlock k L object) (omega (arith, low-le)) ∙ node-block-unit k L object (b .object-size) (trailingZeros 64 c) low-within)
+  pub from-data : c - lowBit c ≡ 0 → blockOf L object (trailingZeros 64 c + 1) ≡ nodeBlock k L object c
+  from-data z =
+      sym (data-block L object (trailingZeros 64 c))
+      ∙ sym (ap (nodeBlock k L object) (omega (arith, low-le)) ∙ node-block-unit k L object (b .object-size) (trailingZeros 64 c) low-within)
 
   -- the block of an earlier node
   earlier : (d : ℕ) → Before f k j d → blockOf L nodes (nodeOf f k d) ≡ nodeBlock k L object d

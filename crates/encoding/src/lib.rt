@@ -4,9 +4,9 @@ ghost use mathlib.Core.Path.{_≡_};
 ghost use Prim.Native.Nat.{ℕ, _+_, _*_, _≤_};
 ghost use lib.ListN.{length};
 ghost use Rattle.families.specs.Families.{KInRange, nodeCount, columnOf};
-ghost use Rattle.blocks.specs.Blocks.{withBlock, InBuffer};
+ghost use Rattle.blocks.specs.Blocks.{withBlock};
 ghost use Rattle.checks.specs.Checks.{firstMet};
-ghost use Rattle.encoding.specs.Matrix.{dataBlock, nodeBlock, nodesBuffer};
+ghost use Rattle.encoding.specs.Matrix.{nodeBlock, nodesBuffer};
 ghost use Rattle.encoding.specs.Progress.{BeforeNode};
 ghost use Rattle.encoding.specs.Encode.{encodeChecks, encodeAnswer, encoded};
 
@@ -21,22 +21,11 @@ fn encode_refusal(family: usize, k: usize, len: usize, object_len: usize, nodes_
     if object_len != k * len {
         return 6;
     }
-    let n = families::node_count(families::family_of(family), k);
+    let n = families::node_count_of(family, k);
     if nodes_len != n * len {
         return 6;
     }
     0
-}
-
-// Data block i + 1 of the object is copied to node j.
-fn copy_data_block(len: usize, object: &[u8], i: usize, nodes: &mut [u8], j: usize)
-    requires { ⌜ i * len + len ≤ length (now object) ⌝ }
-    requires { ⌜ InBuffer len (now nodes) j ⌝ }
-    ensures { λ _. ⌜ now (nodes .exit) ≡ withBlock len (now (nodes .entry)) j (dataBlock len (now (object .entry)) i) ⌝ }
-{
-    let from = i * len;
-    let to = (j - 1) * len;
-    blocks::copy_block(&mut nodes[to..to + len], &object[from..from + len]);
 }
 
 // Node j's block, from those of the nodes before it: a data block is copied, and any other node is the XOR of the data
@@ -58,7 +47,7 @@ fn encode_node(
     let bit = base::power(low);
     let rest = column - bit;
     if rest == 0 {
-        copy_data_block(len, object, low, nodes, j);
+        blocks::copy_between(len, object, low + 1, nodes, j);
         return;
     }
     let a = families::node_of(family, k, bit);

@@ -261,3 +261,18 @@ module _ (k c : ℕ) (r : KInRange WeightTwo k) (positive : 0 < c) (small : c < 
             let l : lowBit c ≡ 2 ^ a = ap lowBit e ∙ low-double a b (omega arith) (omega arith) in
             let d : c - lowBit c ≡ 2 ^ b = omega (arith, l, e) in
             n (d ∙ sym (ap lowBit d ∙ ap (λ (x : ℕ). 2 ^ x) (lowest-power 64 b (omega arith))))
+
+-- ---- the nodes of data blocks
+
+-- every data block has a node of its own
+pub unit-node : (f : Family) (k i : ℕ) → KInRange f k → i < k → 1 ≤ nodeOf f k (2 ^ i)
+unfolding columnOf nodeCount nodeOf
+unit-node Simplex k i r h =
+    omega (arith, node-is Simplex k r (2 ^ i) (2 ^ i) (record { first = pow-pos i; last = omega (arith, pow-lt h) }) refl, pow-pos i)
+unit-node WeightTwo k i r h =
+    omega (
+      arith,
+      node-is WeightTwo k r (2 ^ i) (suc i) (record { first = omega arith; last = omega (arith, pair-count k, pairs-le k) })
+          (data-column k (suc i) (omega arith) h ∙ ap (λ (x : ℕ). 2 ^ x) (omega arith)),
+    )
+unit-node Tetrahedron k i r h = tetra.data-node i (omega (arith, r .most))

@@ -100,3 +100,11 @@ unfolding nodeOf nodeCount
 node-above c h =
     first-none (λ j. eqb (columnOf Tetrahedron 4 j) c) 1 14
     (λ j a b. ne-eqb (columnOf Tetrahedron 4 j) c (λ e. omega (arith, e, entry j a (omega arith) .below)))
+
+-- each data block has a node
+abbrev data-test : ℕ → Bool
+data-test i = ltb 0 (nodeOf Tetrahedron 4 (2 ^ i))
+
+pub data-node : (i : ℕ) → i < 4 → 1 ≤ nodeOf Tetrahedron 4 (2 ^ i)
+unfolding allBelow nodeOf firstFrom columnOf nodeCount
+data-node i h = ltb-true 0 (nodeOf Tetrahedron 4 (2 ^ i)) (all-below data-test 4 refl i h)

@@ -60,6 +60,14 @@ pub fn node_count(family: Family, k: usize) -> usize
     }
 }
 
+// n of the family with this number.
+pub fn node_count_of(number: usize, k: usize) -> usize
+    requires { ⌜ KInRange (familyOf number) k ⌝ }
+    ensures { λ r. ⌜ r ≡ nodeCount (familyOf number) k ⌝ }
+{
+    node_count(family_of(number), k)
+}
+
 // Node j's column.
 pub fn column(family: Family, k: usize, j: usize) -> usize
     requires { ⌜ KInRange family k ⌝ }

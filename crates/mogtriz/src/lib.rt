@@ -26,7 +26,7 @@ pub extern "C" fn mogtriz_node_count(family: usize, k: usize) -> usize
     if checks::parameter_refusal(family, k, 1) != 0 {
         return 0;
     }
-    families::node_count(families::family_of(family), k)
+    families::node_count_of(family, k)
 }
 
 fn is_node(family: usize, k: usize, j: usize) -> bool

@@ -2,13 +2,13 @@
 -- blocks are in place.
 -- Assumes nothing.
 use mathlib.Core.Path.{_≡_, sym, _∙_, ap, ap₂}
-use Prim.Native.Nat.{ℕ, _-_, _^_, _≤_}
+use Prim.Native.Nat.{ℕ, _+_, _-_, _^_}
 use lib.Count.{trailingZeros}
 use Rattle.families.specs.Families.{columnOf, nodeOf}
 use Rattle.families.proofs.Laws.{lowBit, short, sources}
 use Rattle.blocks.specs.Blocks.{xorBytes, blockOf, withBlock}
-use Rattle.encoding.specs.Matrix.{dataBlock, nodeBlock}
-use Rattle.encoding.proofs.Nodes.{low-within, low-le, inside, data-fits, from-data, from-pair}
+use Rattle.encoding.specs.Matrix.{nodeBlock}
+use Rattle.encoding.proofs.Nodes.{low-within, low-le, inside, data-inside, from-data, from-pair}
 use borrow.Author.Needs.{needs}
 use native.Mathlib.Omega.{arith}
 use Rattle.encoding.proofs.encode_node.Statement.{statement}
@@ -43,17 +43,23 @@ power-requires c κs =
 sub-rest : tie.Need-sub-rest
 sub-rest c = omega (arith, bit-is c, c .before .before .before .before .pre .1, low-le (c .before .before .before .before .pre .0))
 
-copy-data-block-requires : tie.Need-copy-data-block-requires
-copy-data-block-requires c κs =
+add-copy-between : tie.Need-add-copy-between
+add-copy-between c =
+    let p = c .before .before .before .before .before .pre .0 in
+    omega (arith, low-is (c .before .before), low-within p, short _ _ (p .range))
+
+copy-between-requires : tie.Need-copy-between-requires
+copy-between-requires c κs =
     let p = c .before .before .before .before .before .before .pre .0 in
-    (rw (low-is (c .before .before .before)) (data-fits p), inside p _ (p .node .first) (omega arith))
+    (rw (low-is (c .before .before .before)) (data-inside p), inside p _ (p .node .first) (omega arith))
 
 returns : tie.Need-returns
 returns c =
     let p = c .before .before .before .before .before .before .before .before .before .pre .0 in
     let g = c .before .before .before .before .before .before .before .before .before .args in
-    c .before .before .copy-data-block .ensures
-    ∙ ap (withBlock (g .len) (g .nodes .now) (g .j)) (ap (dataBlock (g .len) (g .object .now)) (low-is (c .before .before .before .before .before .before)) ∙ from-data p (sym (rest-is (c .before .before .before .before .before)) ∙ c .before .before .before .before .if1 .taken) ∙ ap (nodeBlock (g .k) (g .len) (g .object .now)) (sym (c .before .before .before .before .before .before .before .before .before .pre .1)))
+    c .before .before .copy-between .ensures
+    ∙ ap (withBlock (g .len) (g .nodes .now) (g .j))
+    (ap (λ (i : ℕ). blockOf (g .len) (g .object .now) (i + 1)) (low-is (c .before .before .before .before .before .before)) ∙ from-data p (sym (rest-is (c .before .before .before .before .before)) ∙ c .before .before .before .before .if1 .taken) ∙ ap (nodeBlock (g .k) (g .len) (g .object .now)) (sym (c .before .before .before .before .before .before .before .before .before .pre .1)))
 
 node-of-requires : tie.Need-node-of-requires
 node-of-requires c κs = c .before .before .before .before .before .pre .0 .range
@@ -85,7 +91,8 @@ encode-node-spec =
     (λ c κs. search needs)
     power-requires
     sub-rest
-    copy-data-block-requires
+    add-copy-between
+    copy-between-requires
     (λ c. search needs)
     returns
     node-of-requires

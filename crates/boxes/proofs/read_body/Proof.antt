@@ -1,22 +1,19 @@
--- `encoding::copy_data_block` meets its contract: the part of the object is put in the place of node j's block.
+-- `boxes::read_body` meets its contract: the part of the bodies is put in the place of node j's block.
 -- Assumes nothing.
-use mathlib.Core.Path.{_≡_, _∙_}
 use Prim.Native.Nat.{_*_, _-_}
 use native.Mathlib.Nat.{add-sub-cancel-left}
 use Rattle.blocks.proofs.PartLaws.{put-block}
-use Rattle.encoding.specs.Matrix.{dataBlock}
 use borrow.Author.Needs.{needs}
-use Rattle.encoding.proofs.copy_data_block.Statement.{statement}
-use Rattle.encoding.proofs.copy_data_block.Tie as tie
+use Rattle.boxes.proofs.read_body.Statement.{statement}
+use Rattle.boxes.proofs.read_body.Tie as tie
 
 returns : tie.Need-returns
-unfolding dataBlock
 returns c =
     let g = c .before .before .before .before .before .before .before .args in
     rw (c .before .before .copy-block .ensures, add-sub-cancel-left ((g .j - 1) * g .len) (g .len), add-sub-cancel-left (g .i * g .len) (g .len)) (put-block (g .len) (g .nodes .now) (g .j) _)
 
-pub copy-data-block-spec : {M : Type 1} → statement M
-copy-data-block-spec =
+pub read-body-spec : {M : Type 1} → statement M
+read-body-spec =
     tie.close
     (tie.spec
     (λ c. search needs)

@@ -1,0 +1,132 @@
+-- What the checks of a box and of a body give, check by check.
+-- Assumes nothing.
+use mathlib.Core.Path.{_≡_, refl, _∙_}
+use mathlib.Core.Bool.{true, false, true≢false}
+use mathlib.Core.List.{List, [], _∷_, _++_}
+use Prim.Native.Nat.{ℕ, _+_, _*_, _≤_, _<_}
+use native.Mathlib.Omega.{arith}
+use borrow.Author.Tests.{lt-ltb, le-ltb, eq-eqb, ne-eqb, ltb-true, not-false}
+use lib.ListN.{length, take, drop, length-drop}
+use lib.Seq.{length-take-le, drop-drop}
+use Rattle.checks.specs.Checks.{Check, _gives_, firstMet}
+use Rattle.checks.specs.Claims.{NoneMet}
+use Rattle.checks.specs.Parameters.{parameterChecks}
+use Rattle.checks.proofs.Laws.{accepted, parameters-none, none-append, some-append, outside-low, outside-high, outside-no}
+use Rattle.lists.specs.Lists.{placeIn}
+use Rattle.boxes.specs.Box.{familyIn, kIn, lengthIn, heldIn, zerosIn, namesIn, nodesIn, boxLength, boxChecks, bodyChecks, bodyOf}
+use Rattle.boxes.specs.Names.{nameChecks}
+
+-- ---- lists of checks
+
+pub none-zero : (checks : List Check) → NoneMet checks → firstMet checks ≡ 0
+unfolding firstMet
+none-zero [] n = refl
+none-zero ((true gives r) ∷ checks) n = absurd (true≢false (n .0))
+none-zero ((false gives r) ∷ checks) n = none-zero checks (n .1)
+
+none-left : (checks later : List Check) → NoneMet (checks ++ later) → NoneMet checks
+none-left [] later n = tt
+none-left ((met gives r) ∷ checks) later n = (n .0, none-left checks later (n .1))
+
+none-right : (checks later : List Check) → NoneMet (checks ++ later) → NoneMet later
+none-right [] later n = n
+none-right ((met gives r) ∷ checks) later n = none-right checks later (n .1)
+
+-- ---- a box
+
+abbrev pub parametersOf : List ℕ → List Check
+parametersOf bytes = parameterChecks (familyIn bytes) (kIn bytes) (lengthIn bytes)
+
+pub length-names : (bytes : List ℕ) → 8 + heldIn bytes ≤ length bytes → length (namesIn bytes) ≡ heldIn bytes
+length-names bytes h = length-take-le (heldIn bytes) (drop 8 bytes) (simp length-drop (omega arith))
+
+module _ (bytes : List ℕ) where
+  pub by-short : length bytes < 8 → firstMet (boxChecks bytes) ≡ 7
+  unfolding boxChecks firstMet
+  by-short h = rw (lt-ltb (length bytes) 8 h)
+
+  -- none of the box's checks is met
+  pub box-none : firstMet (boxChecks bytes) ≡ 0 → NoneMet (boxChecks bytes)
+  unfolding boxChecks parameterChecks
+  box-none e = accepted (boxChecks bytes) refl e
+
+  module _ (long : 8 ≤ length bytes) where
+    pub by-parameters : (firstMet (parametersOf bytes) ≡ 0 → ⊥) → firstMet (boxChecks bytes) ≡ firstMet (parametersOf bytes)
+    unfolding boxChecks firstMet
+    by-parameters n = rw (le-ltb (length bytes) 8 long) (some-append (parametersOf bytes) _ n)
+
+    module _ (e : firstMet (parametersOf bytes) ≡ 0) where
+      passed : NoneMet (parametersOf bytes)
+      passed = parameters-none (familyIn bytes) (kIn bytes) (lengthIn bytes) e
+
+      pub by-zeros : zerosIn bytes ≡ false → firstMet (boxChecks bytes) ≡ 8
+      unfolding boxChecks firstMet
+      by-zeros z = rw (le-ltb (length bytes) 8 long) (none-append (parametersOf bytes) _ passed ∙ rw z)
+
+      pub by-length : zerosIn bytes ≡ true → (length bytes ≡ boxLength (heldIn bytes) (lengthIn bytes) → ⊥) → firstMet (boxChecks bytes) ≡ 7
+      unfolding boxChecks firstMet
+      by-length z n =
+          rw (le-ltb (length bytes) 8 long)
+          (none-append (parametersOf bytes) _ passed ∙ rw (z, ne-eqb (length bytes) (boxLength (heldIn bytes) (lengthIn bytes)) n))
+
+      -- the last three are those of n and the node numbers
+      pub by-names : zerosIn bytes ≡ true → length bytes ≡ boxLength (heldIn bytes) (lengthIn bytes) → firstMet (boxChecks bytes) ≡ firstMet (nameChecks (nodesIn bytes) (namesIn bytes))
+      unfolding boxChecks nameChecks firstMet
+      by-names z s =
+          rw (le-ltb (length bytes) 8 long, length-names bytes (omega arith))
+          (none-append (parametersOf bytes) _ passed ∙ rw (z, eq-eqb (length bytes) (boxLength (heldIn bytes) (lengthIn bytes)) s))
+
+-- ---- a body
+
+module _ (bytes : List ℕ) (j : ℕ) where
+  pub by-box : (firstMet (boxChecks bytes) ≡ 0 → ⊥) → firstMet (bodyChecks bytes j) ≡ firstMet (boxChecks bytes)
+  unfolding bodyChecks
+  by-box n = some-append (boxChecks bytes) _ n
+
+  module _ (e : firstMet (boxChecks bytes) ≡ 0) where
+    pub by-low : j < 1 → firstMet (bodyChecks bytes j) ≡ 4
+    unfolding bodyChecks firstMet
+    by-low h = none-append (boxChecks bytes) _ (box-none bytes e) ∙ rw (outside-low 1 (nodesIn bytes) j h)
+
+    pub by-high : nodesIn bytes < j → firstMet (bodyChecks bytes j) ≡ 4
+    unfolding bodyChecks firstMet
+    by-high h = none-append (boxChecks bytes) _ (box-none bytes e) ∙ rw (outside-high 1 (nodesIn bytes) j h)
+
+    pub by-missing : 1 ≤ j → j ≤ nodesIn bytes → heldIn bytes ≤ placeIn (namesIn bytes) j → firstMet (bodyChecks bytes j) ≡ 12
+    unfolding bodyChecks firstMet
+    by-missing h g m =
+        none-append (boxChecks bytes) _ (box-none bytes e)
+        ∙ rw (outside-no 1 (nodesIn bytes) j h g, le-ltb (placeIn (namesIn bytes) j) (heldIn bytes) m)
+
+    pub by-none : 1 ≤ j → j ≤ nodesIn bytes → placeIn (namesIn bytes) j < heldIn bytes → firstMet (bodyChecks bytes j) ≡ 0
+    unfolding bodyChecks firstMet
+    by-none h g m =
+        none-append (boxChecks bytes) _ (box-none bytes e)
+        ∙ rw (outside-no 1 (nodesIn bytes) j h g, lt-ltb (placeIn (namesIn bytes) j) (heldIn bytes) m)
+
+  -- a body that is not refused
+  pub record AcceptedBody : Type 0 where
+    pub accepted-box : firstMet (boxChecks bytes) ≡ 0
+    pub place : placeIn (namesIn bytes) j < heldIn bytes
+
+  body-none : firstMet (bodyChecks bytes j) ≡ 0 → NoneMet (bodyChecks bytes j)
+  unfolding bodyChecks boxChecks parameterChecks
+  body-none e = accepted (bodyChecks bytes j) refl e
+
+  pub accepted-body : firstMet (bodyChecks bytes j) ≡ 0 → AcceptedBody
+  unfolding bodyChecks
+  accepted-body e =
+      let n = body-none e in
+      let l = none-right (boxChecks bytes) _ n in
+      record {
+        accepted-box = none-zero (boxChecks bytes) (none-left (boxChecks bytes) _ n);
+        place = ltb-true (placeIn (namesIn bytes) j) (heldIn bytes) (not-false _ (l .1 .0));
+      }
+
+  pub body-empty : (firstMet (bodyChecks bytes j) ≡ 0 → ⊥) → bodyOf bytes j ≡ []
+  unfolding bodyOf
+  body-empty n = rw (ne-eqb (firstMet (bodyChecks bytes j)) 0 n)
+
+  pub body-part : firstMet (bodyChecks bytes j) ≡ 0 → take (lengthIn bytes) (drop (8 + heldIn bytes + placeIn (namesIn bytes) j * lengthIn bytes) bytes) ≡ bodyOf bytes j
+  unfolding bodyOf
+  body-part e = rw (e, drop-drop (placeIn (namesIn bytes) j * lengthIn bytes) (8 + heldIn bytes) bytes)

@@ -1,0 +1,38 @@
+-- `boxes::box_refusal` meets its contract: under 8 bytes 7, then 1 to 3, then the checks after them.
+-- Assumes nothing.
+use mathlib.Core.Path.{_≡_, sym, _∙_}
+use native.Mathlib.Omega.{arith}
+use borrow.Author.Needs.{needs}
+use Rattle.checks.specs.Checks.{firstMet}
+use Rattle.boxes.proofs.Answers.{parametersOf, by-short, by-parameters}
+use Rattle.boxes.proofs.box_refusal.Statement.{statement}
+use Rattle.boxes.proofs.box_refusal.Tie as tie
+
+-- what 1 to 3 give for the box's family, k and L
+bad-is : (c : tie.After-parameter-refusal) → c .parameter-refusal .result ≡ firstMet (parametersOf (c .before .before .before .before .before .before .args .bytes .now))
+bad-is c = cc
+
+returns : tie.Need-returns
+returns c = sym (by-short _ (c .if1 .taken))
+
+returns-2 : tie.Need-returns-2
+returns-2 c =
+    let b = c .before .before .before .before .before .before .before .args .bytes .now in
+    let e = bad-is (c .before) in
+    e ∙ sym (by-parameters b (omega arith) (rw e at (c .if2 .taken)))
+
+rest-refusal-requires : tie.Need-rest-refusal-requires
+rest-refusal-requires c κs = (omega arith, sym (bad-is (c .before)) ∙ c .if2 .left)
+
+pub box-refusal-spec : {M : Type 1} → statement M
+box-refusal-spec =
+    tie.close
+    (tie.spec
+    returns
+    (λ c κs. search needs)
+    (λ c κs. search needs)
+    (λ c κs. search needs)
+    (λ c κs. search needs)
+    returns-2
+    rest-refusal-requires
+    (λ c. search needs))

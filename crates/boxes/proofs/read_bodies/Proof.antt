@@ -1,0 +1,47 @@
+-- `boxes::read_bodies` meets its contract: before turn i the first i bodies are in their places.
+-- Assumes nothing.
+use Prim.Native.Nat.{_-_}
+use lib.ListN.{length}
+use Rattle.boxes.proofs.Loops.{Reading, read-none, read-node, read-fits, read-more, read-done}
+use borrow.Author.Needs.{needs}
+use native.Mathlib.Omega.{arith}
+use Rattle.boxes.proofs.read_bodies.Statement.{statement}
+use Rattle.boxes.proofs.read_bodies.Tie as tie
+
+abbrev Inv-loop : tie.InvT-loop
+Inv-loop len nodes₀ list bodies i₀ nodes i = Reading len nodes₀ list bodies nodes i
+
+abbrev μ-loop : tie.MeasureT-loop
+μ-loop len nodes₀ list bodies i₀ nodes i = length list - i
+
+loop-holds : tie.Need-loop-holds Inv-loop μ-loop
+loop-holds c = let p = c .before .before .before .pre in read-none (p .0) (p .1)
+
+read-body-requires : tie.Need-read-body-requires Inv-loop μ-loop
+read-body-requires c κs =
+    let l = c .before .before .before .before .loop .inv in
+    (rw (c .wide .ensures) (read-node l (omega arith)), read-fits l (omega arith))
+
+loop-again : tie.Need-loop-again Inv-loop μ-loop
+loop-again c =
+    let l = c .before .before .before .before .before .before .before .loop .inv in
+    rw (c .before .before .read-body .ensures, c .before .before .before .wide .ensures) (read-more l (omega arith))
+
+returns : tie.Need-returns Inv-loop μ-loop
+returns c = read-done (c .before .loop .inv) (omega arith)
+
+pub read-bodies-spec : {M : Type 1} → statement M
+read-bodies-spec =
+    tie.close
+    (tie.spec
+    Inv-loop
+    μ-loop
+    loop-holds
+    (λ c. search needs)
+    (λ c κs. search needs)
+    read-body-requires
+    (λ c. search needs)
+    (λ c. search needs)
+    loop-again
+    (λ c. c .before .loop .inv .kept)
+    returns)

@@ -1,0 +1,47 @@
+-- `boxes::write_bodies` meets its contract: before turn i `out` begins with the first i bodies.
+-- Assumes nothing.
+use Prim.Native.Nat.{_-_}
+use lib.ListN.{length}
+use Rattle.boxes.proofs.Loops.{Writing, write-none, write-fits, write-more, write-done}
+use borrow.Author.Needs.{needs}
+use native.Mathlib.Omega.{arith}
+use Rattle.boxes.proofs.write_bodies.Statement.{statement}
+use Rattle.boxes.proofs.write_bodies.Tie as tie
+
+abbrev Inv-loop : tie.InvT-loop
+Inv-loop len list nodes out₀ count i₀ out i = Writing len list nodes out₀ out i
+
+abbrev μ-loop : tie.MeasureT-loop
+μ-loop len list nodes out₀ count i₀ out i = length list - i
+
+loop-holds : tie.Need-loop-holds Inv-loop μ-loop
+loop-holds c = let p = c .before .before .before .pre in write-none (p .0) (p .1)
+
+write-body-requires : tie.Need-write-body-requires Inv-loop μ-loop
+write-body-requires c κs =
+    let l = c .before .before .before .before .loop in
+    (rw (c .before .wide .ensures) (l .inv .inside .each (l .i) (omega arith)), write-fits (l .inv) (omega arith))
+
+loop-again : tie.Need-loop-again Inv-loop μ-loop
+loop-again c =
+    let l = c .before .before .before .before .before .before .before .loop .inv in
+    rw (c .before .before .write-body .ensures, c .before .before .before .before .wide .ensures) (write-more l (omega arith))
+
+returns : tie.Need-returns Inv-loop μ-loop
+returns c = write-done (c .before .loop .inv) (omega arith)
+
+pub write-bodies-spec : {M : Type 1} → statement M
+write-bodies-spec =
+    tie.close
+    (tie.spec
+    Inv-loop
+    μ-loop
+    loop-holds
+    (λ c. search needs)
+    (λ c κs. search needs)
+    write-body-requires
+    (λ c. search needs)
+    (λ c. search needs)
+    loop-again
+    (λ c. c .before .loop .inv .kept)
+    returns)

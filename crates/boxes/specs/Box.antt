@@ -1,0 +1,68 @@
+-- The box (document 01, "The box"): its fields, and the order of its checks.
+use Prim.Native.Nat.{ℕ, _+_, _*_}
+use mathlib.Core.Bool.{Bool, cond, not, _&&_}
+use mathlib.Core.List.{List, [], _∷_, _++_}
+use lib.ListN.{length, getD, take, drop}
+use lib.Dec.{eqb, ltb}
+use Rattle.families.specs.Families.{familyOf, nodeCount}
+use Rattle.checks.specs.Checks.{Check, _gives_, firstMet}
+use Rattle.checks.specs.Parameters.{outside, parameterChecks}
+use Rattle.lists.specs.Lists.{someOutside, rises, placeIn}
+
+-- byte 0: family. Byte 1: k. Bytes 2 to 3: L, the low byte first. Byte 4: E, the number of nodes held
+abbrev pub familyIn : List ℕ → ℕ
+familyIn bytes = getD bytes 0 0
+
+abbrev pub kIn : List ℕ → ℕ
+kIn bytes = getD bytes 1 0
+
+abbrev pub lengthIn : List ℕ → ℕ
+lengthIn bytes = getD bytes 2 0 + getD bytes 3 0 * 256
+
+abbrev pub heldIn : List ℕ → ℕ
+heldIn bytes = getD bytes 4 0
+
+-- bytes 5 to 7 are zero
+abbrev pub zerosIn : List ℕ → Bool
+zerosIn bytes = eqb (getD bytes 5 0) 0 && (eqb (getD bytes 6 0) 0 && eqb (getD bytes 7 0) 0)
+
+-- then E bytes, the node numbers
+abbrev pub namesIn : List ℕ → List ℕ
+namesIn bytes = take (heldIn bytes) (drop 8 bytes)
+
+-- then E bodies of L bytes in that order
+abbrev pub bodiesIn : List ℕ → List ℕ
+bodiesIn bytes = drop (8 + heldIn bytes) bytes
+
+-- the length is exactly 8 + E + E × L
+abbrev pub boxLength : ℕ → ℕ → ℕ
+boxLength E L = 8 + E + E * L
+
+-- n of the box's family and k
+abbrev pub nodesIn : List ℕ → ℕ
+nodesIn bytes = nodeCount (familyOf (familyIn bytes)) (kIn bytes)
+
+-- under 8 bytes 7, then 1, 2, 3, 8, full length 7, 9, 4, 5
+unfoldable pub boxChecks : List ℕ → List Check
+boxChecks bytes =
+    (ltb (length bytes) 8 gives 7)
+    ∷ (parameterChecks (familyIn bytes) (kIn bytes) (lengthIn bytes)
+    ++ ((not (zerosIn bytes) gives 8)
+    ∷ (not (eqb (length bytes) (boxLength (heldIn bytes) (lengthIn bytes))) gives 7)
+    ∷ (ltb (nodesIn bytes) (heldIn bytes) gives 9)
+    ∷ (someOutside (nodesIn bytes) (namesIn bytes) gives 4)
+    ∷ (not (rises (namesIn bytes)) gives 5)
+    ∷ []))
+
+-- for a body: the box's checks, then 4 and 12
+unfoldable pub bodyChecks : List ℕ → ℕ → List Check
+bodyChecks bytes j =
+    boxChecks bytes
+    ++ ((outside 1 (nodesIn bytes) j gives 4)
+    ∷ (not (ltb (placeIn (namesIn bytes) j) (heldIn bytes)) gives 12)
+    ∷ [])
+
+-- the body of node j: the L bytes at its place among the named nodes; empty where it is refused
+unfoldable pub bodyOf : List ℕ → ℕ → List ℕ
+bodyOf bytes j =
+    cond (eqb (firstMet (bodyChecks bytes j)) 0) (take (lengthIn bytes) (drop (placeIn (namesIn bytes) j * lengthIn bytes) (bodiesIn bytes))) []

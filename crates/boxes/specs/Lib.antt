@@ -1,0 +1,4 @@
+pub mod Box
+pub mod Bodies
+pub mod Places
+pub mod Names

@@ -1,0 +1,255 @@
+// Boxes of nodes: their checks, the body of a node, and bodies copied between a box and a nodes buffer.
+ghost use mathlib.Core.Path.{_≡_};
+ghost use mathlib.Core.List.{_++_};
+ghost use Prim.Native.Nat.{_+_, _*_, _≤_, _<_};
+ghost use lib.ListN.{length, drop};
+ghost use borrow.Rule.Slice.PartMut.{midOf, putMid};
+ghost use Rattle.families.specs.Families.{KInRange, familyOf};
+ghost use Rattle.checks.specs.Checks.{firstMet};
+ghost use Rattle.checks.specs.Parameters.{parameterChecks};
+ghost use Rattle.blocks.specs.Blocks.{blockOf, withBlock, InBuffer};
+ghost use Rattle.boxes.specs.Box.{familyIn, kIn, lengthIn, heldIn, zerosIn, namesIn, bodiesIn, nodesIn, boxLength, boxChecks, bodyChecks, bodyOf};
+ghost use Rattle.boxes.specs.Bodies.{headerOf, bodiesOf, boxOf, withBodies};
+ghost use Rattle.boxes.specs.Places.{ListIn};
+ghost use Rattle.boxes.specs.Names.{nameChecks};
+
+// A byte as a number.
+fn wide(byte: u8) -> usize
+    ensures { λ r. ⌜ r ≡ byte ⌝ }
+{
+    byte as usize
+}
+
+// The number of a box's family.
+pub fn family(bytes: &[u8]) -> usize
+    requires { ⌜ 8 ≤ length (now bytes) ⌝ }
+    ensures { λ r. ⌜ r ≡ familyIn (now (bytes .entry)) ⌝ }
+{
+    wide(bytes[0])
+}
+
+// k of a box.
+pub fn block_count(bytes: &[u8]) -> usize
+    requires { ⌜ 8 ≤ length (now bytes) ⌝ }
+    ensures { λ r. ⌜ r ≡ kIn (now (bytes .entry)) ⌝ }
+{
+    wide(bytes[1])
+}
+
+// L of a box.
+pub fn block_length(bytes: &[u8]) -> usize
+    requires { ⌜ 8 ≤ length (now bytes) ⌝ }
+    ensures { λ r. ⌜ r ≡ lengthIn (now (bytes .entry)) ⌝ }
+{
+    wide(bytes[2]) + wide(bytes[3]) * 256
+}
+
+// E of a box, the number of nodes held.
+pub fn held(bytes: &[u8]) -> usize
+    requires { ⌜ 8 ≤ length (now bytes) ⌝ }
+    ensures { λ r. ⌜ r ≡ heldIn (now (bytes .entry)) ⌝ }
+{
+    wide(bytes[4])
+}
+
+// The node numbers of a box.
+pub fn names(bytes: &[u8]) -> &[u8]
+    requires { ⌜ (8 ≤ length (now bytes)) × (8 + heldIn (now bytes) ≤ length (now bytes)) ⌝ }
+    ensures { λ r. ⌜ now r ≡ namesIn (now (bytes .entry)) ⌝ }
+{
+    let count = held(bytes);
+    &bytes[8..8 + count]
+}
+
+// The bodies of a box, one after the other.
+pub fn bodies(bytes: &[u8]) -> &[u8]
+    requires { ⌜ (8 ≤ length (now bytes)) × (8 + heldIn (now bytes) ≤ length (now bytes)) ⌝ }
+    ensures { λ r. ⌜ now r ≡ bodiesIn (now (bytes .entry)) ⌝ }
+{
+    let count = held(bytes);
+    &bytes[8 + count..]
+}
+
+// n of a box's family and k.
+pub fn node_count(bytes: &[u8]) -> usize
+    requires { ⌜ 8 ≤ length (now bytes) ⌝ }
+    requires { ⌜ KInRange (familyOf (familyIn (now bytes))) (kIn (now bytes)) ⌝ }
+    ensures { λ r. ⌜ r ≡ nodesIn (now (bytes .entry)) ⌝ }
+{
+    let code = families::family_of(family(bytes));
+    families::node_count(code, block_count(bytes))
+}
+
+// Whether bytes 5 to 7 are zero.
+fn zeros(bytes: &[u8]) -> bool
+    requires { ⌜ 8 ≤ length (now bytes) ⌝ }
+    ensures { λ r. ⌜ r ≡ zerosIn (now (bytes .entry)) ⌝ }
+{
+    if bytes[5] != 0 {
+        return false;
+    }
+    if bytes[6] != 0 {
+        return false;
+    }
+    bytes[7] == 0
+}
+
+// 9, 4 or 5 for the node numbers of a box, in this order; else 0.
+fn names_refusal(n: usize, names: &[u8]) -> u8
+    ensures { λ r. ⌜ r ≡ firstMet (nameChecks n (now (names .entry))) ⌝ }
+{
+    if n < names.len() {
+        return 9;
+    }
+    if lists::some_outside(n, names) {
+        return 4;
+    }
+    if !lists::is_rising(names) {
+        return 5;
+    }
+    0
+}
+
+// The first check that is met, or 0, of a box of 8 bytes or more whose family, k and L are in range.
+fn rest_refusal(bytes: &[u8]) -> u8
+    requires { ⌜ 8 ≤ length (now bytes) ⌝ }
+    requires { ⌜ firstMet (parameterChecks (familyIn (now bytes)) (kIn (now bytes)) (lengthIn (now bytes))) ≡ 0 ⌝ }
+    ensures { λ r. ⌜ r ≡ firstMet (boxChecks (now (bytes .entry))) ⌝ }
+{
+    if !zeros(bytes) {
+        return 8;
+    }
+    let count = held(bytes);
+    let len = block_length(bytes);
+    // the numbers and bodies are looked at only once the length is as E says
+    if bytes.len() != 8 + count + count * len {
+        return 7;
+    }
+    names_refusal(node_count(bytes), names(bytes))
+}
+
+// The first check of a box that is met, or 0.
+pub fn box_refusal(bytes: &[u8]) -> u8
+    ensures { λ r. ⌜ r ≡ firstMet (boxChecks (now (bytes .entry))) ⌝ }
+{
+    if bytes.len() < 8 {
+        return 7;
+    }
+    let bad = checks::parameter_refusal(family(bytes), block_count(bytes), block_length(bytes));
+    if bad != 0 {
+        return bad;
+    }
+    rest_refusal(bytes)
+}
+
+// The first check of the body of node j that is met, or 0.
+pub fn body_refusal(bytes: &[u8], j: usize) -> u8
+    ensures { λ r. ⌜ r ≡ firstMet (bodyChecks (now (bytes .entry)) j) ⌝ }
+{
+    let bad = box_refusal(bytes);
+    if bad != 0 {
+        return bad;
+    }
+    if j < 1 {
+        return 4;
+    }
+    if node_count(bytes) < j {
+        return 4;
+    }
+    if held(bytes) <= lists::place_in(names(bytes), j) {
+        return 12;
+    }
+    0
+}
+
+// The body of node j, as that part of the box; empty where it is refused, by the number that `body_refusal` gives.
+pub fn body(bytes: &[u8], j: usize) -> &[u8]
+    ensures { λ r. ⌜ now r ≡ bodyOf (now (bytes .entry)) j ⌝ }
+{
+    if body_refusal(bytes, j) != 0 {
+        return &bytes[0..0];
+    }
+    let len = block_length(bytes);
+    let from = 8 + held(bytes) + lists::place_in(names(bytes), j) * len;
+    &bytes[from..from + len]
+}
+
+// The body at place i, from 0, becomes node j's block.
+fn read_body(len: usize, nodes: &mut [u8], j: usize, bodies: &[u8], i: usize)
+    requires { ⌜ InBuffer len (now nodes) j ⌝ }
+    requires { ⌜ i * len + len ≤ length (now bodies) ⌝ }
+    ensures { λ _. ⌜ now (nodes .exit) ≡ withBlock len (now (nodes .entry)) j (midOf (i * len) len (now (bodies .entry))) ⌝ }
+{
+    let from = i * len;
+    let to = (j - 1) * len;
+    blocks::copy_block(&mut nodes[to..to + len], &bodies[from..from + len]);
+}
+
+// The bodies of a list of nodes become those nodes' blocks; the other places keep their bytes.
+pub fn read_bodies(len: usize, nodes: &mut [u8], list: &[u8], bodies: &[u8])
+    requires { ⌜ ListIn len (now nodes) (now list) ⌝ }
+    requires { ⌜ length (now bodies) ≡ length (now list) * len ⌝ }
+    ensures { λ _. ⌜ now (nodes .exit) ≡ withBodies len (now (nodes .entry)) (now (list .entry)) (now (bodies .entry)) ⌝ }
+{
+    let mut i: usize = 0;
+    while i < list.len() {
+        read_body(len, nodes, wide(list[i]), bodies, i);
+        i += 1;
+    }
+}
+
+// The first 8 bytes of a box.
+fn write_header(family: usize, k: usize, len: usize, count: usize, out: &mut [u8])
+    requires { ⌜ (family < 256) × (k < 256) × (len < 65536) × (count < 256) ⌝ }
+    requires { ⌜ 8 ≤ length (now out) ⌝ }
+    ensures { λ _. ⌜ now (out .exit) ≡ headerOf family k len count ++ drop 8 (now (out .entry)) ⌝ }
+{
+    out[0] = family as u8;
+    out[1] = k as u8;
+    out[2] = (len % 256) as u8;
+    out[3] = (len / 256) as u8;
+    out[4] = count as u8;
+    out[5] = 0;
+    out[6] = 0;
+    out[7] = 0;
+}
+
+// Node j's block becomes the body at place i, from 0.
+fn write_body(len: usize, nodes: &[u8], j: usize, out: &mut [u8], i: usize)
+    requires { ⌜ InBuffer len (now nodes) j ⌝ }
+    requires { ⌜ i * len + len ≤ length (now out) ⌝ }
+    ensures { λ _. ⌜ now (out .exit) ≡ putMid (i * len) len (now (out .entry)) (blockOf len (now (nodes .entry)) j) ⌝ }
+{
+    let from = (j - 1) * len;
+    let to = i * len;
+    blocks::copy_block(&mut out[to..to + len], &nodes[from..from + len]);
+}
+
+// The bodies of a list of nodes, in that order, fill `out`.
+fn write_bodies(len: usize, list: &[u8], nodes: &[u8], out: &mut [u8])
+    requires { ⌜ ListIn len (now nodes) (now list) ⌝ }
+    requires { ⌜ length (now out) ≡ length (now list) * len ⌝ }
+    ensures { λ _. ⌜ now (out .exit) ≡ bodiesOf len (now (nodes .entry)) (now (list .entry)) ⌝ }
+{
+    let count = list.len();
+    let mut i: usize = 0;
+    while i < count {
+        write_body(len, nodes, wide(list[i]), out, i);
+        i += 1;
+    }
+}
+
+// The box of a list of nodes; `out` beyond it is not written.
+pub fn write_box(family: usize, k: usize, len: usize, list: &[u8], nodes: &[u8], out: &mut [u8])
+    requires { ⌜ (family < 256) × (k < 256) × (len < 65536) × (length (now list) < 256) ⌝ }
+    requires { ⌜ ListIn len (now nodes) (now list) ⌝ }
+    requires { ⌜ boxLength (length (now list)) len ≤ length (now out) ⌝ }
+    ensures { λ _. ⌜ now (out .exit) ≡ boxOf family k len (now (list .entry)) (now (nodes .entry)) ++ drop (boxLength (length (now (list .entry))) len) (now (out .entry)) ⌝ }
+{
+    let count = list.len();
+    let start = 8 + count;
+    let end = start + count * len;
+    write_header(family, k, len, count, out);
+    blocks::copy_block(&mut out[8..start], list);
+    write_bodies(len, list, nodes, &mut out[start..end]);
+}

@@ -1,0 +1,273 @@
+-- What lists and marks have to do with each other: a list that rises within 1 to n and its marks are each given by the other.
+-- Assumes nothing.
+use mathlib.Core.Path.{_≡_, refl, sym, ap, ap₂, _∙_}
+use mathlib.Core.Bool.{Bool, true, false, cond, _||_, false≢true, or-false}
+use mathlib.Core.List.{List, [], _∷_}
+use mathlib.Core.Logic.{_⊎_, inl, inr, ⊎-elim}
+use Prim.Native.Nat.{ℕ, zero, suc, _+_, _-_, _≤_, _<_}
+use native.Mathlib.Nat.{eq-or-lt-of-le}
+use native.Mathlib.Omega.{arith}
+use borrow.Author.Tests.{ltb-true, ltb-false, lt-ltb, eqb-true, eqb-false, eq-eqb, ne-eqb}
+use lib.Dec.{ltb, eqb, leb·suc-suc}
+use lib.ListN.{length, getD, set, length-set, getD-replicate}
+use lib.Seq.{getD-set-same, getD-set-other, ext-getD}
+use Rattle.base.proofs.Tests.{and-left, and-right, and-both, or-neither, is-false}
+use Rattle.checks.proofs.Laws.{inside, outside-no}
+use Rattle.checks.specs.Parameters.{outside}
+use Rattle.lists.specs.Lists.{someOutside, rises, placeIn, noneLive, isLive, setLive, someMissing, someLive, liveOutside, liveFrom, liveNodes}
+
+-- ---- numbers outside 1 to n
+
+-- what is said of a list's first number and of the others
+outside-both : (n x : ℕ) (list : List ℕ) → someOutside n (x ∷ list) ≡ false → ((1 ≤ x) × (x ≤ n)) × (someOutside n list ≡ false)
+unfolding someOutside
+outside-both n x list o =
+    let p = or-neither (outside 1 n x) (someOutside n list) o in
+    (inside 1 n x (p .0), p .1)
+
+outside-cons : (n x : ℕ) (list : List ℕ) → 1 ≤ x → x ≤ n → someOutside n list ≡ false → someOutside n (x ∷ list) ≡ false
+unfolding someOutside
+outside-cons n x list l h o = simp (outside-no 1 n x l h, o)
+
+pub outside-none : (n : ℕ) (list : List ℕ) → someOutside n list ≡ false → (i : ℕ) → i < length list → (1 ≤ getD list i 0) × (getD list i 0 ≤ n)
+outside-none n [] o i h = absurd (omega arith)
+outside-none n (x ∷ list) o zero h = outside-both n x list o .0
+outside-none n (x ∷ list) o (suc i) h = outside-none n list (outside-both n x list o .1) i (omega arith)
+
+outside-more : (m n : ℕ) (list : List ℕ) → m ≤ n → someOutside m list ≡ false → someOutside n list ≡ false
+unfolding someOutside
+outside-more m n [] h o = refl
+outside-more m n (x ∷ list) h o =
+    let p = outside-both m x list o in
+    outside-cons n x list (p .0 .0) (omega arith) (outside-more m n list h (p .1))
+
+-- ---- a number's being in a list
+
+abbrev has : List ℕ → ℕ → Bool
+has list j = ltb (placeIn list j) (length list)
+
+has-cons : (x : ℕ) (list : List ℕ) (j : ℕ) → has (x ∷ list) j ≡ (eqb x j || has list j)
+unfolding placeIn
+has-cons x list j = go (eqb x j)
+  where
+    go : (b : Bool) → ltb (cond b 0 (suc (placeIn list j))) (suc (length list)) ≡ (b || has list j)
+    go true = lt-ltb 0 (suc (length list)) (omega arith)
+    go false = leb·suc-suc (suc (placeIn list j)) (length list)
+
+has-inside : (n : ℕ) (list : List ℕ) (j : ℕ) → someOutside n list ≡ false → has list j ≡ true → (1 ≤ j) × (j ≤ n)
+unfolding placeIn
+has-inside n [] j o h = absurd (false≢true h)
+has-inside n (x ∷ list) j o h =
+    let p = outside-both n x list o in
+    ⊎-elim (λ (e : eqb x j ≡ true). rw (sym (eqb-true x j e)) (p .0)) (λ (t : has list j ≡ true). has-inside n list j (p .1) t)
+    (or-either (eqb x j) (has list j) (sym (has-cons x list j) ∙ h))
+  where
+    or-either : (a b : Bool) → (a || b) ≡ true → (a ≡ true) ⊎ (b ≡ true)
+    or-either true b t = inl refl
+    or-either false b t = inr t
+
+-- ---- the marks of a list
+
+pub length-setLive : (marks : List Bool) (list : List ℕ) → length (setLive marks list) ≡ length marks
+unfolding setLive
+length-setLive marks [] = refl
+length-setLive marks (x ∷ list) = length-setLive (set marks x true) list ∙ length-set marks x true
+
+set-mark : (marks : List Bool) (x j : ℕ) → x < length marks → isLive (set marks x true) j ≡ (eqb x j || isLive marks j)
+set-mark marks x j h = go (eqb x j) refl
+  where
+    go : (b : Bool) → eqb x j ≡ b → isLive (set marks x true) j ≡ (b || isLive marks j)
+    go true e = rw (sym (eqb-true x j e)) (getD-set-same marks x true false h)
+    go false e = getD-set-other marks x j true false (λ q. eqb-false x j e (sym q))
+
+set-live : (marks : List Bool) (list : List ℕ) (j : ℕ) → length marks ≡ 256 → someOutside 255 list ≡ false → isLive (setLive marks list) j ≡ (has list j || isLive marks j)
+unfolding setLive placeIn
+set-live marks [] j l o = refl
+set-live marks (x ∷ list) j l o =
+    let p = outside-both 255 x list o in
+    set-live (set marks x true) list j (length-set marks x true ∙ l) (p .1)
+    ∙ ap (λ (b : Bool). has list j || b) (set-mark marks x j (omega arith))
+    ∙ swap (has list j) (eqb x j) (isLive marks j)
+    ∙ ap (λ (b : Bool). b || isLive marks j) (sym (has-cons x list j))
+  where
+    swap : (a b c : Bool) → (a || (b || c)) ≡ ((b || a) || c)
+    swap true true c = refl
+    swap true false c = refl
+    swap false true c = refl
+    swap false false c = refl
+
+pub live-of-list : (list : List ℕ) (j : ℕ) → j < 256 → someOutside 255 list ≡ false → isLive (setLive noneLive list) j ≡ ltb (placeIn list j) (length list)
+live-of-list list j h o = set-live noneLive list j refl o ∙ ap (λ (b : Bool). has list j || b) (getD-replicate 256 j false false h) ∙ or-false (has list j)
+
+-- ---- marks that are live, of m from j on
+
+some-none : (marks : List Bool) (j m : ℕ) → ((i : ℕ) → j ≤ i → i < j + m → isLive marks i ≡ false) → someLive marks j m ≡ false
+unfolding someLive
+some-none marks j zero h = refl
+some-none marks j (suc m) h = simp (h j (omega arith) (omega arith), some-none marks (suc j) m (λ i l g. h i (omega arith) (omega arith)))
+
+none-live : (marks : List Bool) (j m : ℕ) → someLive marks j m ≡ false → (i : ℕ) → j ≤ i → i < j + m → isLive marks i ≡ false
+unfolding someLive
+none-live marks j zero s i l h = absurd (omega arith)
+none-live marks j (suc m) s i l h =
+    let p = or-neither (isLive marks j) (someLive marks (suc j) m) s in
+    ⊎-elim (λ (e : j ≡ i). rw (sym e) (p .0)) (λ (g : j < i). none-live marks (suc j) m (p .1) i g (omega arith)) (eq-or-lt-of-le l)
+
+pub list-outside-none : (n : ℕ) (list : List ℕ) → n ≤ 255 → someOutside n list ≡ false → liveOutside n (setLive noneLive list) ≡ false
+unfolding liveOutside
+list-outside-none n list h o = simp (missed 0 (omega arith) (λ l. omega arith), some-none (setLive noneLive list) (n + 1) (255 - n) (λ i l g. missed i (omega arith) (λ p. omega arith)))
+  where
+    missed : (i : ℕ) → i < 256 → ((1 ≤ i) × (i ≤ n) → ⊥) → isLive (setLive noneLive list) i ≡ false
+    missed i g out = live-of-list list i g (outside-more n 255 list h o) ∙ is-false (has list i) (λ t. out (has-inside n list i o t))
+
+-- ---- lists that rise
+
+-- the list rises, and starts at j or above
+abbrev RisesFrom : ℕ → List ℕ → Type 0
+RisesFrom j [] = Unit
+RisesFrom j (x ∷ list) = (j ≤ x) × RisesFrom (suc x) list
+
+rises-above : (x : ℕ) (list : List ℕ) → rises (x ∷ list) ≡ true → RisesFrom (suc x) list
+unfolding rises
+rises-above x [] r = tt
+rises-above x (y ∷ list) r = (ltb-true x y (and-left (ltb x y) (rises (y ∷ list)) r), rises-above y list (and-right (ltb x y) (rises (y ∷ list)) r))
+
+rises-from : (n : ℕ) (list : List ℕ) → someOutside n list ≡ false → rises list ≡ true → RisesFrom 1 list
+rises-from n [] o r = tt
+rises-from n (x ∷ list) o r = (outside-both n x list o .0 .0, rises-above x list r)
+
+from-rises : (j : ℕ) (list : List ℕ) → RisesFrom j list → rises list ≡ true
+unfolding rises
+from-rises j [] r = refl
+from-rises j (x ∷ []) r = refl
+from-rises j (x ∷ y ∷ list) r = and-both (ltb x y) (rises (y ∷ list)) (lt-ltb x y (r .1 .0)) (from-rises (suc x) (y ∷ list) (r .1))
+
+from-lower : (i j : ℕ) (list : List ℕ) → i ≤ j → RisesFrom j list → RisesFrom i list
+from-lower i j [] h r = tt
+from-lower i j (x ∷ list) h r = (omega arith, r .1)
+
+few-from : (n j : ℕ) (list : List ℕ) → RisesFrom j list → someOutside n list ≡ false → length list ≤ n + 1 - j
+few-from n j [] r o = omega arith
+few-from n j (x ∷ list) r o = omega (arith, few-from n (suc x) list (r .1) (outside-both n x list o .1), outside-both n x list o .0)
+
+pub rising-few : (n : ℕ) (list : List ℕ) → someOutside n list ≡ false → rises list ≡ true → length list ≤ n
+rising-few n list o r = omega (arith, few-from n 1 list (rises-from n list o r) o)
+
+has-below : (j : ℕ) (list : List ℕ) (i : ℕ) → RisesFrom j list → i < j → has list i ≡ false
+unfolding placeIn
+has-below j [] i r h = refl
+has-below j (x ∷ list) i r h = has-cons x list i ∙ simp (ne-eqb x i (λ e. omega arith), has-below (suc x) list i (r .1) (omega arith))
+
+-- ---- the live nodes
+
+-- by whether the first number is live
+either : (P : List ℕ → Type 0) (b : Bool) (x : ℕ) (later : List ℕ) → (b ≡ true → P (x ∷ later)) → (b ≡ false → P later) → P (cond b (x ∷ later) later)
+either P true x later y n = y refl
+either P false x later y n = n refl
+
+module _ (marks : List Bool) where
+  live-few : (j m : ℕ) → length (liveFrom marks j m) ≤ m
+  unfolding liveFrom
+  live-few j zero = omega arith
+  live-few j (suc m) =
+      let h = live-few (suc j) m in
+      either (λ list. length list ≤ suc m) (isLive marks j) j (liveFrom marks (suc j) m) (λ t. omega arith) (λ f. omega arith)
+
+  live-inside : (n j m : ℕ) → 1 ≤ j → j + m ≤ n + 1 → someOutside n (liveFrom marks j m) ≡ false
+  unfolding liveFrom someOutside
+  live-inside n j zero l h = refl
+  live-inside n j (suc m) l h =
+      let o = live-inside n (suc j) m (omega arith) (omega arith) in
+      either (λ list. someOutside n list ≡ false) (isLive marks j) j (liveFrom marks (suc j) m) (λ t. outside-cons n j (liveFrom marks (suc j) m) l (omega arith) o) (λ f. o)
+
+  live-rise : (j m : ℕ) → RisesFrom j (liveFrom marks j m)
+  unfolding liveFrom
+  live-rise j zero = tt
+  live-rise j (suc m) =
+      let r = live-rise (suc j) m in
+      either (RisesFrom j) (isLive marks j) j (liveFrom marks (suc j) m) (λ t. (omega arith, r)) (λ f. from-lower j (suc j) (liveFrom marks (suc j) m) (omega arith) r)
+
+  live-live : (j m : ℕ) → someMissing marks (liveFrom marks j m) ≡ false
+  unfolding liveFrom someMissing
+  live-live j zero = refl
+  live-live j (suc m) =
+      let s = live-live (suc j) m in
+      either (λ list. someMissing marks list ≡ false) (isLive marks j) j (liveFrom marks (suc j) m) (λ t. simp (t, s)) (λ f. s)
+
+  has-live : (j m i : ℕ) → j ≤ i → i < j + m → has (liveFrom marks j m) i ≡ isLive marks i
+  unfolding liveFrom
+  has-live j zero i l h = absurd (omega arith)
+  has-live j (suc m) i l h = ⊎-elim here (λ (g : j < i). later g (has-live (suc j) m i g (omega arith))) (eq-or-lt-of-le l)
+    where
+      rest : List ℕ
+      rest = liveFrom marks (suc j) m
+
+      here : j ≡ i → has (cond (isLive marks j) (j ∷ rest) rest) i ≡ isLive marks i
+      here e = either (λ list. has list i ≡ isLive marks i) (isLive marks j) j rest (λ t. has-cons j rest i ∙ simp (eq-eqb j i e) (sym (rw e at t))) (λ f. has-below (suc j) rest i (live-rise (suc j) m) (omega arith) ∙ sym (rw e at f))
+
+      later : j < i → has rest i ≡ isLive marks i → has (cond (isLive marks j) (j ∷ rest) rest) i ≡ isLive marks i
+      later g s = either (λ list. has list i ≡ isLive marks i) (isLive marks j) j rest (λ t. has-cons j rest i ∙ simp (ne-eqb j i (λ e. omega arith)) s) (λ f. s)
+
+  pub live-nodes-few : (n : ℕ) → length (liveNodes marks n) ≤ n
+  live-nodes-few n = live-few 1 n
+
+  pub live-nodes-inside : (n : ℕ) → someOutside n (liveNodes marks n) ≡ false
+  live-nodes-inside n = live-inside n 1 n (omega arith) (omega arith)
+
+  pub live-nodes-rise : (n : ℕ) → rises (liveNodes marks n) ≡ true
+  live-nodes-rise n = from-rises 1 (liveNodes marks n) (live-rise 1 n)
+
+  pub live-nodes-live : (n : ℕ) → someMissing marks (liveNodes marks n) ≡ false
+  live-nodes-live n = live-live 1 n
+
+-- ---- a rising list and its marks
+
+-- marks that are live exactly in a rising list have it as their live nodes
+live-are : (marks : List Bool) (n : ℕ) (list : List ℕ) (j m : ℕ) → j + m ≡ n + 1 → RisesFrom j list → someOutside n list ≡ false
+    → ((i : ℕ) → j ≤ i → i ≤ n → isLive marks i ≡ has list i) → liveFrom marks j m ≡ list
+unfolding liveFrom placeIn
+live-are marks n [] j zero e r o h = refl
+live-are marks n (x ∷ list) j zero e r o h = absurd (omega (arith, outside-both n x list o .0))
+live-are marks n [] j (suc m) e r o h = simp (h j (omega arith) (omega arith)) (live-are marks n [] (suc j) m (omega arith) tt o (λ i l g. h i (omega arith) g))
+live-are marks n (x ∷ list) j (suc m) e r o h =
+    let p = outside-both n x list o in
+    ⊎-elim
+    (λ (q : j ≡ x).
+    let t : isLive marks j ≡ true = h j (omega arith) (omega arith) ∙ has-cons x list j ∙ simp (eq-eqb x j (sym q)) in
+    simp t
+    (ap₂ _∷_ q
+    (live-are marks n list (suc j) m (omega arith) (from-lower (suc j) (suc x) list (omega arith) (r .1)) (p .1)
+    (λ i l g. h i (omega arith) g ∙ has-cons x list i ∙ simp (ne-eqb x i (λ k. omega arith))))))
+    (λ (q : j < x).
+    let f : isLive marks j ≡ false = h j (omega arith) (omega arith) ∙ has-below (suc j) (x ∷ list) j (q, r .1) (omega arith) in
+    simp f
+    (live-are marks n (x ∷ list) (suc j) m (omega arith) (q, r .1) o (λ i l g. h i (omega arith) g)))
+    (eq-or-lt-of-le (r .0))
+
+pub live-nodes-of-list : (n : ℕ) (list : List ℕ) → n ≤ 255 → someOutside n list ≡ false → rises list ≡ true → liveNodes (setLive noneLive list) n ≡ list
+live-nodes-of-list n list h o r =
+    live-are (setLive noneLive list) n list 1 n (omega arith) (rises-from n list o r) o (λ i l g. live-of-list list i (omega arith) (outside-more n 255 list h o))
+
+pub marks-of-live-nodes : (n : ℕ) (marks : List Bool) → length marks ≡ 256 → n ≤ 255 → liveOutside n marks ≡ false → setLive noneLive (liveNodes marks n) ≡ marks
+unfolding liveOutside
+marks-of-live-nodes n marks l h o =
+    ext-getD false (setLive noneLive (liveNodes marks n)) marks (length-setLive noneLive (liveNodes marks n) ∙ sym l)
+    (λ i g.
+    let k : i < 256 = omega (arith, length-setLive noneLive (liveNodes marks n)) in
+    live-of-list (liveNodes marks n) i k (outside-more n 255 (liveNodes marks n) h (live-nodes-inside marks n)) ∙ same i k)
+  where
+    p : (isLive marks 0 ≡ false) × (someLive marks (n + 1) (255 - n) ≡ false)
+    p = or-neither (isLive marks 0) (someLive marks (n + 1) (255 - n)) o
+
+    same : (i : ℕ) → i < 256 → has (liveNodes marks n) i ≡ isLive marks i
+    same zero g = has-below 1 (liveNodes marks n) 0 (live-rise marks 1 n) (omega arith) ∙ sym (p .0)
+    same (suc i) g = go (ltb n (suc i)) refl
+      where
+        go : (b : Bool) → ltb n (suc i) ≡ b → has (liveNodes marks n) (suc i) ≡ isLive marks (suc i)
+        go true e =
+            let k = ltb-true n (suc i) e in
+            is-false (has (liveNodes marks n) (suc i)) (λ t. omega (arith, has-inside n (liveNodes marks n) (suc i) (live-nodes-inside marks n) t))
+            ∙ sym (none-live marks (n + 1) (255 - n) (p .1) (suc i) (omega arith) (omega arith))
+        go false e =
+            let k = ltb-false n (suc i) e in
+            has-live marks 1 n (suc i) (omega arith) (omega arith)

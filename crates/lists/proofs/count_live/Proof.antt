@@ -1,0 +1,59 @@
+-- `lists::count_live` meets its contract: before each turn as many are counted as are live of 1 to j.
+-- Assumes nothing.
+use mathlib.Core.Path.{_≡_, refl, sym, ap, _∙_}
+use Prim.Native.Nat.{ℕ, _+_, _-_, _≤_}
+use denote.Ref.{now}
+use lib.ListN.{length, length-append}
+use native.Mathlib.Omega.{arith}
+use borrow.Author.Needs.{needs}
+use Rattle.lists.proofs.Laws.{live-nodes-few}
+use Rattle.lists.proofs.Walks.{nodes-more, nodes-same}
+use Rattle.lists.specs.Lists.{liveFrom, liveNodes}
+use Rattle.lists.proofs.count_live.Statement.{statement}
+use Rattle.lists.proofs.count_live.Tie as tie
+
+abbrev Inv-loop : tie.InvT-loop
+Inv-loop marks n count₀ j₀ count j = (j ≤ n) × (count ≡ length (liveNodes marks j))
+
+abbrev μ-loop : tie.MeasureT-loop
+μ-loop marks n count₀ j₀ count j = n - j
+
+loop-holds : tie.Need-loop-holds Inv-loop μ-loop
+unfolding liveFrom
+loop-holds c = (omega arith, refl)
+
+add-count : tie.Need-add-count Inv-loop μ-loop
+add-count c = omega (arith, live-nodes-few (now (c .before .before .before .before .args .marks)) (c .before .before .before .loop .j))
+
+loop-again : tie.Need-loop-again Inv-loop μ-loop
+loop-again c =
+    let m = now (c .before .before .before .before .args .marks) in
+    let l = c .before .before .before .loop in
+    (omega arith, omega (arith, ap length (nodes-more m (l .j) (c .if1 .taken)) ∙ length-append (liveNodes m (l .j)) _))
+
+loop-again-2 : tie.Need-loop-again-2 Inv-loop μ-loop
+loop-again-2 c =
+    let l = c .before .before .before .loop in
+    (omega arith, l .inv .1 ∙ sym (ap length (nodes-same _ (l .j) (c .if1 .left))))
+
+returns : tie.Need-returns Inv-loop μ-loop
+returns c =
+    let g = c .before .before .args in
+    let e : c .before .loop .j ≡ g .n = omega arith in
+    c .before .loop .inv .1 ∙ ap (λ (j : ℕ). length (liveNodes (now (g .marks)) j)) e
+
+pub count-live-spec : {M : Type 1} → statement M
+count-live-spec =
+    tie.close
+    (tie.spec
+    Inv-loop
+    μ-loop
+    loop-holds
+    (λ c. search needs)
+    (λ c. search needs)
+    add-count
+    (λ c. search needs)
+    loop-again
+    (λ c. search needs)
+    loop-again-2
+    returns)

@@ -1,0 +1,67 @@
+-- `lists::list_live` meets its contract: before each turn the list has the live nodes of 1 to j, and zeros after them.
+-- Assumes nothing.
+use mathlib.Core.Path.{_≡_, refl, sym, ap, _∙_}
+use Prim.Native.Nat.{ℕ, _+_, _-_, _≤_}
+use denote.Ref.{now}
+use lib.ListN.{length, set, length-append}
+use native.Mathlib.Nat.{mod-eq-of-lt}
+use native.Mathlib.Omega.{arith}
+use borrow.Author.Needs.{needs}
+use Rattle.lists.proofs.Laws.{live-nodes-few}
+use Rattle.lists.proofs.Walks.{padded, pad-more, nodes-more, nodes-same}
+use Rattle.lists.specs.Lists.{liveFrom, liveNodes}
+use Rattle.lists.proofs.list_live.Statement.{statement}
+use Rattle.lists.proofs.list_live.Tie as tie
+
+abbrev Inv-loop : tie.InvT-loop
+Inv-loop marks n list₀ count₀ j₀ list count j = ((j ≤ n) × (count ≡ length (liveNodes marks j))) × (list ≡ padded (liveNodes marks j))
+
+abbrev μ-loop : tie.MeasureT-loop
+μ-loop marks n list₀ count₀ j₀ list count j = n - j
+
+loop-holds : tie.Need-loop-holds Inv-loop μ-loop
+unfolding liveFrom
+loop-holds c = ((omega arith, refl), refl)
+
+array-write-list : tie.Need-array-write-list Inv-loop μ-loop
+array-write-list c = omega (arith, live-nodes-few (now (c .before .before .before .before .args .marks)) (c .before .before .before .loop .j))
+
+loop-again : tie.Need-loop-again Inv-loop μ-loop
+loop-again c =
+    let m = now (c .before .before .before .before .args .marks) in
+    let l = c .before .before .before .loop in
+    let nodes = liveNodes m (l .j) in
+    let more = nodes-more m (l .j) (c .if1 .taken) in (
+      (omega arith, omega (arith, ap length more ∙ length-append nodes _)),
+      rw (l .inv .1, l .inv .0 .1, more) (ap (set (padded nodes) (length nodes)) (mod-eq-of-lt (omega arith)) ∙ pad-more nodes (l .j + 1) (omega (arith, array-write-list c))),
+    )
+
+loop-again-2 : tie.Need-loop-again-2 Inv-loop μ-loop
+loop-again-2 c =
+    let l = c .before .before .before .loop in
+    let same = nodes-same (now (c .before .before .before .before .args .marks)) (l .j) (c .if1 .left) in
+    ((omega arith, l .inv .0 .1 ∙ sym (ap length same)), l .inv .1 ∙ sym (ap padded same))
+
+returns : tie.Need-returns Inv-loop μ-loop
+returns c =
+    let g = c .before .before .args in
+    let e : c .before .loop .j ≡ g .n = omega arith in
+    c .before .loop .inv .1 ∙ ap (λ (j : ℕ). padded (liveNodes (now (g .marks)) j)) e
+
+pub list-live-spec : {M : Type 1} → statement M
+list-live-spec =
+    tie.close
+    (tie.spec
+    Inv-loop
+    μ-loop
+    loop-holds
+    (λ c. search needs)
+    (λ c. search needs)
+    (λ c. search needs)
+    array-write-list
+    (λ c. omega (arith, array-write-list c))
+    (λ c. search needs)
+    loop-again
+    (λ c. search needs)
+    loop-again-2
+    returns)

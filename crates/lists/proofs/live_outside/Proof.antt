@@ -1,0 +1,58 @@
+-- `lists::live_outside` meets its contract: mark 0 is asked first, and before each turn a mark above n is live exactly when one from j on is.
+-- Assumes nothing.
+use mathlib.Core.Path.{_≡_, sym, ap, _∙_}
+use Prim.Native.Nat.{_+_, _-_}
+use denote.Ref.{now}
+use native.Mathlib.Omega.{arith}
+use borrow.Author.Needs.{needs}
+use Rattle.lists.proofs.Walks.{live-step, live-end}
+use Rattle.lists.specs.Lists.{someLive, liveOutside}
+use Rattle.lists.proofs.live_outside.Statement.{statement}
+use Rattle.lists.proofs.live_outside.Tie as tie
+
+abbrev Inv-loop : tie.InvT-loop
+Inv-loop n marks j₀ j = liveOutside n marks ≡ someLive marks j (256 - j)
+
+abbrev μ-loop : tie.MeasureT-loop
+μ-loop n marks j₀ j = 256 - j
+
+returns : tie.Need-returns Inv-loop μ-loop
+unfolding liveOutside
+returns c = simp (c .if1 .taken)
+
+loop-holds : tie.Need-loop-holds Inv-loop μ-loop
+unfolding liveOutside
+loop-holds c =
+    let g = c .before .before .args in
+    let e : 255 - g .n ≡ 256 - (g .n + 1) = omega arith in
+    simp (c .if1 .left) (ap (someLive (now (g .marks)) (g .n + 1)) e)
+
+returns-2 : tie.Need-returns-2 Inv-loop μ-loop
+returns-2 c =
+    let l = c .before .before .before .loop in
+    sym (l .inv ∙ live-step _ (l .j) (omega arith) ∙ simp (c .if2 .taken))
+
+loop-again : tie.Need-loop-again Inv-loop μ-loop
+loop-again c =
+    let l = c .before .before .before .loop in
+    l .inv ∙ live-step _ (l .j) (omega arith) ∙ simp (c .if2 .left)
+
+returns-3 : tie.Need-returns-3 Inv-loop μ-loop
+returns-3 c = sym (c .before .loop .inv ∙ live-end _ _ (c .loop-test .left))
+
+pub live-outside-spec : {M : Type 1} → statement M
+live-outside-spec =
+    tie.close
+    (tie.spec
+    Inv-loop
+    μ-loop
+    (λ c. search needs)
+    returns
+    (λ c. search needs)
+    loop-holds
+    (λ c. search needs)
+    returns-2
+    (λ c. search needs)
+    (λ c. search needs)
+    loop-again
+    returns-3)

@@ -1,0 +1,59 @@
+-- Node lists and marks (document 01, "The session"): a list holds node numbers, and marks say of each number which is live.
+use Prim.Native.Nat.{ℕ, zero, suc, _+_, _-_}
+use mathlib.Core.Bool.{Bool, true, false, cond, not, _&&_, _||_}
+use mathlib.Core.List.{List, [], _∷_}
+use lib.ListN.{getD, set, replicate}
+use lib.Dec.{eqb, ltb}
+use Rattle.checks.specs.Parameters.{outside}
+
+-- a node number of the list is 0 or above n
+unfoldable pub someOutside : ℕ → List ℕ → Bool
+someOutside n [] = false
+someOutside n (j ∷ list) = outside 1 n j || someOutside n list
+
+-- the list strictly rises
+unfoldable pub rises : List ℕ → Bool
+rises [] = true
+rises (i ∷ []) = true
+rises (i ∷ j ∷ list) = ltb i j && rises (j ∷ list)
+
+-- the place of a number in a list, from 0; past the end where it is not there
+unfoldable pub placeIn : List ℕ → ℕ → ℕ
+placeIn [] j = 0
+placeIn (i ∷ list) j = cond (eqb i j) 0 (suc (placeIn list j))
+
+-- a mark for each of the numbers 0 to 255, every one missing
+abbrev pub noneLive : List Bool
+noneLive = replicate 256 false
+
+-- the mark of a number: live or missing
+abbrev pub isLive : List Bool → ℕ → Bool
+isLive marks j = getD marks j false
+
+-- the marks with the nodes of a list set live
+unfoldable pub setLive : List Bool → List ℕ → List Bool
+setLive marks [] = marks
+setLive marks (j ∷ list) = setLive (set marks j true) list
+
+-- a node of the list is missing
+unfoldable pub someMissing : List Bool → List ℕ → Bool
+someMissing marks [] = false
+someMissing marks (j ∷ list) = not (isLive marks j) || someMissing marks list
+
+-- one of the numbers j, j + 1, .., of which there are m, is live
+unfoldable pub someLive : List Bool → ℕ → ℕ → Bool
+someLive marks j zero = false
+someLive marks j (suc m) = isLive marks j || someLive marks (suc j) m
+
+-- a mark for 0 or above n is live
+unfoldable pub liveOutside : ℕ → List Bool → Bool
+liveOutside n marks = isLive marks 0 || someLive marks (n + 1) (255 - n)
+
+-- the live ones of the numbers j, j + 1, .., of which there are m, rising
+unfoldable pub liveFrom : List Bool → ℕ → ℕ → List ℕ
+liveFrom marks j zero = []
+liveFrom marks j (suc m) = let later = liveFrom marks (suc j) m in cond (isLive marks j) (j ∷ later) later
+
+-- the live nodes of 1 to n
+abbrev pub liveNodes : List Bool → ℕ → List ℕ
+liveNodes marks n = liveFrom marks 1 n

@@ -1,0 +1,140 @@
+// Node lists, a byte a node, and marks, a bool for each number from 0 to 255.
+ghost use mathlib.Core.Path.{_≡_};
+ghost use mathlib.Core.List.{_++_};
+ghost use Prim.Native.Nat.{_-_, _≤_};
+ghost use lib.ListN.{length, replicate};
+ghost use Rattle.lists.specs.Lists.{someOutside, rises, placeIn, noneLive, setLive, someMissing, liveOutside, liveNodes};
+
+// A byte as a number.
+fn wide(byte: u8) -> usize
+    ensures { λ r. ⌜ r ≡ byte ⌝ }
+{
+    byte as usize
+}
+
+// Whether a node number of the list is 0 or above n.
+pub fn some_outside(n: usize, list: &[u8]) -> bool
+    ensures { λ r. ⌜ r ≡ someOutside n (now (list .entry)) ⌝ }
+{
+    let mut i: usize = 0;
+    while i < list.len() {
+        let j = wide(list[i]);
+        if j < 1 {
+            return true;
+        }
+        if n < j {
+            return true;
+        }
+        i += 1;
+    }
+    false
+}
+
+// Whether the list strictly rises.
+pub fn is_rising(list: &[u8]) -> bool
+    ensures { λ r. ⌜ r ≡ rises (now (list .entry)) ⌝ }
+{
+    let mut i: usize = 0;
+    while i + 1 < list.len() {
+        if list[i + 1] <= list[i] {
+            return false;
+        }
+        i += 1;
+    }
+    true
+}
+
+// The place of a node in a list, from 0, or the list's length where it is not there.
+pub fn place_in(list: &[u8], j: usize) -> usize
+    ensures { λ r. ⌜ r ≡ placeIn (now (list .entry)) j ⌝ }
+{
+    let mut i: usize = 0;
+    while i < list.len() {
+        if wide(list[i]) == j {
+            return i;
+        }
+        i += 1;
+    }
+    i
+}
+
+// Every mark missing, and then those of a list set live.
+pub fn marks_of(list: &[u8]) -> [bool; 256]
+    ensures { λ r. ⌜ r ≡ setLive noneLive (now (list .entry)) ⌝ }
+{
+    let mut marks = [false; 256];
+    let mut i: usize = 0;
+    while i < list.len() {
+        let j = wide(list[i]);
+        marks[j] = true;
+        i += 1;
+    }
+    marks
+}
+
+// Whether a node of the list is missing.
+pub fn some_missing(marks: &[bool; 256], list: &[u8]) -> bool
+    ensures { λ r. ⌜ r ≡ someMissing (now (marks .entry)) (now (list .entry)) ⌝ }
+{
+    let mut i: usize = 0;
+    while i < list.len() {
+        let j = wide(list[i]);
+        if !marks[j] {
+            return true;
+        }
+        i += 1;
+    }
+    false
+}
+
+// Whether a mark for 0 or above n is live.
+pub fn live_outside(n: usize, marks: &[bool; 256]) -> bool
+    requires { ⌜ n ≤ 255 ⌝ }
+    ensures { λ r. ⌜ r ≡ liveOutside n (now (marks .entry)) ⌝ }
+{
+    if marks[0] {
+        return true;
+    }
+    let mut j = n + 1;
+    while j < 256 {
+        if marks[j] {
+            return true;
+        }
+        j += 1;
+    }
+    false
+}
+
+// How many of the nodes 1 to n are live.
+pub fn count_live(marks: &[bool; 256], n: usize) -> usize
+    requires { ⌜ n ≤ 255 ⌝ }
+    ensures { λ r. ⌜ r ≡ length (liveNodes (now (marks .entry)) n) ⌝ }
+{
+    let mut count: usize = 0;
+    let mut j: usize = 0;
+    while j < n {
+        j += 1;
+        if marks[j] {
+            count += 1;
+        }
+    }
+    count
+}
+
+// The live nodes of 1 to n, rising, and zeros after them.
+pub fn list_live(marks: &[bool; 256], n: usize) -> [u8; 256]
+    requires { ⌜ n ≤ 255 ⌝ }
+    ensures { λ r. ⌜ r ≡ liveNodes (now (marks .entry)) n ++ replicate (256 - length (liveNodes (now (marks .entry)) n)) 0 ⌝ }
+{
+    let mut list = [0u8; 256];
+    let mut count: usize = 0;
+    let mut j: usize = 0;
+    while j < n {
+        j += 1;
+        if marks[j] {
+            list[count] = (j % 256) as u8;
+            count += 1;
+        }
+    }
+    list
+}

@@ -1,0 +1,159 @@
+-- What check, read and write answer, check by check, and what that leaves in the buffers.
+-- Assumes nothing.
+use mathlib.Core.Path.{_≡_, refl, sym, ap, _∙_, subst}
+use mathlib.Core.Bool.{Bool, true, false, cond, not}
+use mathlib.Core.List.{List, [], _∷_, _++_, append-assoc}
+use Prim.Native.Nat.{ℕ, zero, suc, _+_, _*_, _≤_, _<_}
+use native.Mathlib.Omega.{arith}
+use borrow.Author.Tests.{eq-eqb, ne-eqb, not-false}
+use lib.Dec.{eqb, ltb}
+use lib.ListN.{length, drop}
+use Rattle.checks.specs.Checks.{Check, _gives_, firstMet}
+use Rattle.checks.specs.Claims.{NoneMet}
+use Rattle.checks.proofs.Laws.{accepted, numbered, none-append, some-append}
+use Rattle.lists.specs.Lists.{someOutside, rises, someMissing, liveNodes}
+use Rattle.boxes.specs.Box.{lengthIn, heldIn, namesIn, bodiesIn, nodesIn, boxLength, boxChecks}
+use Rattle.boxes.specs.Bodies.{boxOf, withBodies}
+use Rattle.boxes.proofs.Answers.{box-none}
+use Rattle.repair.specs.declared.Session.{Session}
+use Rattle.repair.specs.declared.Started.{Started}
+use Rattle.repair.specs.declared.Written.{Written}
+use Rattle.repair.specs.Session.{refusedStart, nodesOf, nodesChecks}
+use Rattle.repair.specs.Boxed.{sessionIn, boxAnswer, checkedBox, readChecks, readBox, nodesRead, listed, writtenLength, writeChecks, written, outWritten}
+use Rattle.repair.proofs.StartLaws.{nodes-none}
+
+-- ---- a box
+
+pub answer-refused : (bytes : List ℕ) (number : ℕ) → (number ≡ 0 → ⊥) → refusedStart number ≡ boxAnswer bytes number
+answer-refused bytes number h = simp (ne-eqb number 0 h)
+
+module _ (bytes nodes : List ℕ) where
+  -- what a refusal gives
+  pub record ReadRefused (number : ℕ) : Type 0 where
+    pub answer : refusedStart number ≡ readBox bytes nodes
+    pub kept : nodes ≡ nodesRead bytes nodes
+
+  refused : (number : ℕ) → firstMet (readChecks bytes nodes) ≡ number → (number ≡ 0 → ⊥) → ReadRefused number
+  unfolding readBox nodesRead
+  refused number e h = record { answer = rw e (answer-refused bytes number h); kept = simp (e, ne-eqb number 0 h) }
+
+  pub read-by-box : (number : ℕ) → number ≡ firstMet (boxChecks bytes) → (number ≡ 0 → ⊥) → ReadRefused number
+  unfolding readChecks
+  read-by-box number e h = refused number (some-append (boxChecks bytes) _ (λ z. h (e ∙ z)) ∙ sym e) h
+
+  module _ (e : firstMet (boxChecks bytes) ≡ 0) where
+    pub read-by-nodes : (length nodes ≡ nodesIn bytes * lengthIn bytes → ⊥) → ReadRefused 6
+    unfolding readChecks firstMet
+    read-by-nodes h = refused 6 (none-append (boxChecks bytes) _ (box-none bytes e) ∙ simp (ne-eqb (length nodes) (nodesIn bytes * lengthIn bytes) h)) (λ z. omega arith)
+
+    pub record ReadDone : Type 0 where
+      pub answer : record { refusal = 0; session = sessionIn bytes } ≡ readBox bytes nodes
+      pub written : withBodies (lengthIn bytes) nodes (namesIn bytes) (bodiesIn bytes) ≡ nodesRead bytes nodes
+
+    pub read-done : length nodes ≡ nodesIn bytes * lengthIn bytes → ReadDone
+    unfolding readBox nodesRead readChecks firstMet
+    read-done h =
+        let f : firstMet (readChecks bytes nodes) ≡ 0 = none-append (boxChecks bytes) _ (box-none bytes e) ∙ simp (eq-eqb (length nodes) (nodesIn bytes * lengthIn bytes) h) in
+        record { answer = simp f; written = simp f }
+
+-- ---- write
+
+module _ (s : Session) (nodes list out : List ℕ) where
+  abbrev lists : List Check
+  lists = (someOutside (nodesOf s) list gives 4) ∷ (not (rises list) gives 5) ∷ (someMissing (s .live) list gives 12) ∷ []
+
+  abbrev room : List Check
+  room = (ltb (length out) (writtenLength s list) gives 6) ∷ []
+
+  -- the checks before that of the destination
+  abbrev pub listChecks : List Check
+  listChecks = nodesChecks s (length nodes) ++ lists
+
+  split : writeChecks s nodes list out ≡ listChecks ++ room
+  unfolding writeChecks
+  split = sym (append-assoc (nodesChecks s (length nodes)) lists room)
+
+  pub record WriteRefused (number : ℕ) : Type 0 where
+    pub answer : record { refusal = number; length = 0; session = s } ≡ written s nodes list out
+    pub kept : out ≡ outWritten s nodes list out
+
+  refused-write : (number : ℕ) → firstMet (writeChecks s nodes list out) ≡ number → (number ≡ 0 → ⊥) → WriteRefused number
+  unfolding written outWritten
+  refused-write number e h = record { answer = simp (e, ne-eqb number 0 h); kept = simp (e, ne-eqb number 0 h) }
+
+  pub write-by-list : (number : ℕ) → number ≡ firstMet listChecks → (number ≡ 0 → ⊥) → WriteRefused number
+  write-by-list number e h = refused-write number (ap firstMet split ∙ some-append listChecks room (λ z. h (e ∙ z)) ∙ sym e) h
+
+  pub list-none : firstMet listChecks ≡ 0 → NoneMet listChecks
+  unfolding nodesChecks
+  list-none e = accepted listChecks refl e
+
+  -- what is known once 13, 6, 4, 5 and 12 are passed
+  pub record Listed : Type 0 where
+    pub sizes : firstMet (nodesChecks s (length nodes)) ≡ 0
+    pub inside : someOutside (nodesOf s) list ≡ false
+    pub rising : rises list ≡ true
+    pub live : someMissing (s .live) list ≡ false
+
+  pub list-passed : firstMet listChecks ≡ 0 → Listed
+  unfolding nodesChecks firstMet
+  list-passed e =
+      let n = list-none e in
+      record { sizes = simp (n .0, n .1 .0); inside = n .1 .1 .0; rising = not-false _ (n .1 .1 .1 .0); live = n .1 .1 .1 .1 .0 }
+
+  module _ (e : firstMet listChecks ≡ 0) where
+    to-room : firstMet (writeChecks s nodes list out) ≡ firstMet room
+    to-room = ap firstMet split ∙ none-append listChecks room (list-none e)
+
+    -- with room or without, for the nodes that the list stands for
+    pub record WriteDone (names : List ℕ) : Type 0 where
+      pub answer : cond (ltb (length out) (boxLength (length names) (s .len))) (record { refusal = 6; length = 0; session = s }) (record { refusal = 0; length = boxLength (length names) (s .len); session = s }) ≡ written s nodes list out
+      pub bytes : cond (ltb (length out) (boxLength (length names) (s .len))) out (boxOf (s .family) (s .k) (s .len) names nodes ++ drop (boxLength (length names) (s .len)) out) ≡ outWritten s nodes list out
+
+    all-listed : WriteDone (listed s list)
+    unfolding written outWritten firstMet
+    all-listed = go (ltb (length out) (writtenLength s list)) refl
+      where
+        go : (b : Bool) → ltb (length out) (writtenLength s list) ≡ b → WriteDone (listed s list)
+        go true t = let f : firstMet (writeChecks s nodes list out) ≡ 6 = to-room ∙ rw t in record { answer = simp (t, f); bytes = simp (t, f) }
+        go false t = let f : firstMet (writeChecks s nodes list out) ≡ 0 = to-room ∙ rw t in record { answer = simp (t, f); bytes = simp (t, f) }
+
+    pub write-done : (names : List ℕ) → listed s list ≡ names → WriteDone names
+    write-done names e = subst WriteDone e all-listed
+
+-- what a list stands for
+pub listed-some : (s : Session) (list : List ℕ) → (length list ≡ 0 → ⊥) → listed s list ≡ list
+listed-some s [] h = absurd (h refl)
+listed-some s (j ∷ list) h = refl
+
+pub listed-all : (s : Session) (list : List ℕ) → length list ≡ 0 → listed s list ≡ liveNodes (s .live) (nodesOf s)
+listed-all s [] h = refl
+listed-all s (j ∷ list) h = absurd (omega arith)
+
+-- the list's own checks, one by one
+module _ (s : Session) (length : ℕ) (list : List ℕ) where
+  abbrev checks : List Check
+  checks = nodesChecks s length ++ ((someOutside (nodesOf s) list gives 4) ∷ (not (rises list) gives 5) ∷ (someMissing (s .live) list gives 12) ∷ [])
+
+  pub list-stops : (firstMet (nodesChecks s length) ≡ 0 → ⊥) → firstMet checks ≡ firstMet (nodesChecks s length)
+  list-stops h = some-append (nodesChecks s length) _ h
+
+  module _ (e : firstMet (nodesChecks s length) ≡ 0) where
+    on : firstMet checks ≡ firstMet ((someOutside (nodesOf s) list gives 4) ∷ (not (rises list) gives 5) ∷ (someMissing (s .live) list gives 12) ∷ [])
+    on = none-append (nodesChecks s length) _ (nodes-none s length e)
+
+    pub list-4 : someOutside (nodesOf s) list ≡ true → firstMet checks ≡ 4
+    unfolding firstMet
+    list-4 o = on ∙ rw o
+
+    pub list-5 : someOutside (nodesOf s) list ≡ false → rises list ≡ false → firstMet checks ≡ 5
+    unfolding firstMet
+    list-5 o r = on ∙ simp (o, r)
+
+    pub list-12 : someOutside (nodesOf s) list ≡ false → rises list ≡ true → someMissing (s .live) list ≡ true → firstMet checks ≡ 12
+    unfolding firstMet
+    list-12 o r m = on ∙ simp (o, r, m)
+
+    pub list-0 : someOutside (nodesOf s) list ≡ false → rises list ≡ true → someMissing (s .live) list ≡ false → firstMet checks ≡ 0
+    unfolding firstMet
+    list-0 o r m = on ∙ simp (o, r, m)

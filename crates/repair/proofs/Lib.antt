@@ -1,0 +1,3 @@
+pub mod StartLaws
+pub mod ReadOutLaws
+pub mod BoxedLaws

@@ -1,0 +1,26 @@
+-- `repair::Session::start` meets its contract.
+-- Assumes nothing.
+use mathlib.Core.Path.{_≡_, sym, _∙_, ap}
+use mathlib.Core.Bool.{Bool}
+use mathlib.Core.List.{List}
+use borrow.Author.Tests.{ne-eqb}
+use Rattle.repair.specs.Session.{started, refusedStart}
+use Rattle.repair.specs.declared.Started.{Started}
+use borrow.Author.Needs.{needs}
+use Rattle.repair.proofs.Session.start.Statement.{statement}
+use Rattle.repair.proofs.Session.start.Tie as tie
+
+returns : tie.Need-returns
+unfolding started
+returns c =
+    let e = c .before .before .start-refusal .ensures in
+    rw (ne-eqb _ 0 (rw e at (c .before .if1 .taken))) (c .refused .ensures ∙ ap refusedStart e)
+
+returns-2 : tie.Need-returns-2
+unfolding started
+returns-2 c = rw (sym (c .before .before .start-refusal .ensures) ∙ c .before .if1 .left, c .marks-of .ensures)
+
+pub start-spec : {M : Type 1} → statement M
+start-spec =
+    tie.close
+    (tie.spec (λ c κs. search needs) (λ c κs. search needs) returns (λ c κs. search needs) returns-2)

@@ -1,0 +1,59 @@
+-- `repair::Session::write_listed` meets its contract: what is checked of a session and a list is what writing a box asks.
+-- Assumes nothing.
+use mathlib.Core.Path.{_≡_, sym, _∙_, ap}
+use mathlib.Core.Bool.{true, false}
+use mathlib.Core.List.{List}
+use Prim.Native.Nat.{ℕ, _+_, _*_, _≤_, _<_}
+use native.Mathlib.Nat.{mul-le-mul, le-trans}
+use borrow.Author.Tests.{lt-ltb, le-ltb}
+use lib.ListN.{length}
+use Rattle.families.specs.Families.{familyOf}
+use Rattle.families.proofs.Laws.{few, short}
+use Rattle.lists.specs.Lists.{someOutside, rises}
+use Rattle.lists.proofs.Laws.{rising-few}
+use Rattle.boxes.proofs.Laws.{list-in}
+use Rattle.repair.specs.declared.Session.{Session}
+use Rattle.repair.specs.Session.{nodesOf}
+use Rattle.repair.proofs.StartLaws.{Known, known}
+use borrow.Author.Needs.{needs}
+use native.Mathlib.Omega.{arith}
+use Rattle.repair.proofs.Session.write_listed.Statement.{statement}
+use Rattle.repair.proofs.Session.write_listed.Tie as tie
+
+-- a list of nodes is short, and so is its box
+bounds : (s : Session) (list : List ℕ) → Known s → someOutside (nodesOf s) list ≡ false → rises list ≡ true → (length list ≤ 255) × (length list * s .len ≤ 1044480)
+bounds s list m o r =
+    let l : length list ≤ 255 = le-trans (rising-few (nodesOf s) list o r) (few (familyOf (s .family)) (s .k) (m .range .blocks)) in
+    (l, mul-le-mul {n₂ = 255} {m₂ = 4096} l (m .range .most))
+
+small : (c : tie.After-struct-known) → (length (c .before .before .before .before .args .list .now) ≤ 255) × (length (c .before .before .before .before .args .list .now) * c .before .before .before .before .args .self .len ≤ 1044480)
+small c =
+    let g = c .before .before .before .before .args in
+    let p = c .before .before .before .before .pre in
+    bounds (g .self) (g .list .now) (known (g .self) (p .0 .0)) (p .1 .0) (p .1 .1)
+
+mul-needed : tie.Need-mul-needed
+mul-needed c = omega (arith, small c)
+
+add-needed-2 : tie.Need-add-needed-2
+add-needed-2 c = omega (arith, small c)
+
+returns : tie.Need-returns
+returns c = (simp (lt-ltb _ _ (c .if1 .taken)), simp (lt-ltb _ _ (c .if1 .taken)))
+
+write-box-requires : tie.Need-write-box-requires
+write-box-requires c κs =
+    let g = c .before .before .before .before .before .before .args in
+    let p = c .before .before .before .before .before .before .pre in
+    let m = known (g .self) (p .0 .0) in
+    let b = bounds (g .self) (g .list .now) m (p .1 .0) (p .1 .1) in
+    let k = short _ _ (m .range .blocks) in
+    ((omega (arith, m .range .last), omega (arith, k), omega (arith, m .range .most), omega (arith, b .0)), (list-in (g .self .len) (nodesOf (g .self)) (g .nodes .now) (g .list .now) (p .0 .1) (p .1 .0), c .before .if1 .left))
+
+returns-2 : tie.Need-returns-2
+returns-2 c = (simp (le-ltb _ _ (c .before .before .before .before .if1 .left)), simp (le-ltb _ _ (c .before .before .before .before .if1 .left)) (c .before .before .write-box .ensures))
+
+pub write-listed-spec : {M : Type 1} → statement M
+write-listed-spec =
+    tie.close
+    (tie.spec (λ c. search needs) mul-needed add-needed-2 returns write-box-requires (λ c. search needs) returns-2)

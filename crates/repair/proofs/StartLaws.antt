@@ -1,0 +1,95 @@
+-- What the checks of a start and of a session say.
+-- Assumes nothing.
+use mathlib.Core.Path.{_≡_, refl, sym, ap, _∙_}
+use mathlib.Core.Bool.{Bool, true, false, not, _||_}
+use mathlib.Core.List.{List, [], _∷_, _++_}
+use Prim.Native.Nat.{ℕ, _*_, _≤_}
+use native.Mathlib.Nat.{mul-le-mul}
+use borrow.Author.Tests.{eqb-true, eq-eqb, ne-eqb, not-false}
+use lib.Dec.{eqb}
+use Rattle.base.proofs.Tests.{or-neither}
+use Rattle.families.specs.Families.{familyOf, nodeCount}
+use Rattle.families.proofs.Laws.{few, short}
+use Rattle.checks.specs.Checks.{Check, _gives_, firstMet}
+use Rattle.checks.specs.Claims.{NoneMet}
+use Rattle.checks.specs.Parameters.{parameterChecks}
+use Rattle.checks.proofs.Laws.{InRange, in-range, accepted, parameters-none, none-append, some-append}
+use Rattle.lists.specs.Lists.{someOutside, rises, liveOutside}
+use Rattle.repair.specs.declared.Session.{Session}
+use Rattle.repair.specs.Session.{startChecks, nodesOf, noStart, nodesChecks}
+
+-- ---- start
+
+module _ (family k L : ℕ) (list : List ℕ) where
+  pub start-stops : (firstMet (parameterChecks family k L) ≡ 0 → ⊥) → firstMet (startChecks family k L list) ≡ firstMet (parameterChecks family k L)
+  unfolding startChecks
+  start-stops h = some-append (parameterChecks family k L) _ h
+
+  module _ (e : firstMet (parameterChecks family k L) ≡ 0) where
+    pub start-4 : someOutside (nodeCount (familyOf family) k) list ≡ true → firstMet (startChecks family k L list) ≡ 4
+    unfolding startChecks firstMet
+    start-4 o = none-append (parameterChecks family k L) _ (parameters-none family k L e) ∙ rw o
+
+    pub start-5 : someOutside (nodeCount (familyOf family) k) list ≡ false → rises list ≡ false → firstMet (startChecks family k L list) ≡ 5
+    unfolding startChecks firstMet
+    start-5 o r = none-append (parameterChecks family k L) _ (parameters-none family k L e) ∙ simp (o, r)
+
+    pub start-0 : someOutside (nodeCount (familyOf family) k) list ≡ false → rises list ≡ true → firstMet (startChecks family k L list) ≡ 0
+    unfolding startChecks firstMet
+    start-0 o r = none-append (parameterChecks family k L) _ (parameters-none family k L e) ∙ simp (o, r)
+
+-- ---- 13 and 6
+
+module _ (s : Session) where
+  pub no-start-parameters : (firstMet (parameterChecks (s .family) (s .k) (s .len)) ≡ 0 → ⊥) → noStart s ≡ true
+  unfolding noStart
+  no-start-parameters h = simp (ne-eqb (firstMet (parameterChecks (s .family) (s .k) (s .len))) 0 h)
+
+  pub no-start-marks : firstMet (parameterChecks (s .family) (s .k) (s .len)) ≡ 0 → noStart s ≡ liveOutside (nodesOf s) (s .live)
+  unfolding noStart
+  no-start-marks e = rw e
+
+  -- a session that some start gives
+  pub record Known : Type 0 where
+    pub range : InRange (s .family) (s .k) (s .len)
+    pub inside : liveOutside (nodesOf s) (s .live) ≡ false
+
+  pub known : noStart s ≡ false → Known
+  unfolding noStart
+  known h =
+      let n = or-neither (not (eqb (firstMet (parameterChecks (s .family) (s .k) (s .len))) 0)) (liveOutside (nodesOf s) (s .live)) h in
+      record { range = in-range (s .family) (s .k) (s .len) (eqb-true _ 0 (not-false _ (n .0))); inside = n .1 }
+
+  -- the lengths that are compared are small
+  pub nodes-small : Known → nodesOf s * s .len ≤ 1044480
+  nodes-small n = mul-le-mul {n₂ = 255} {m₂ = 4096} (few (familyOf (s .family)) (s .k) (n .range .blocks)) (n .range .most)
+
+  pub object-small : Known → s .k * s .len ≤ 90112
+  object-small n = mul-le-mul {n₂ = 22} {m₂ = 4096} (short (familyOf (s .family)) (s .k) (n .range .blocks) .1) (n .range .most)
+
+  pub nodes-13 : (length : ℕ) → noStart s ≡ true → firstMet (nodesChecks s length) ≡ 13
+  unfolding nodesChecks firstMet
+  nodes-13 length e = rw e
+
+  pub nodes-6 : (length : ℕ) → noStart s ≡ false → (length ≡ nodesOf s * s .len → ⊥) → firstMet (nodesChecks s length) ≡ 6
+  unfolding nodesChecks firstMet
+  nodes-6 length e h = simp (e, ne-eqb length (nodesOf s * s .len) h)
+
+  pub nodes-0 : (length : ℕ) → noStart s ≡ false → length ≡ nodesOf s * s .len → firstMet (nodesChecks s length) ≡ 0
+  unfolding nodesChecks firstMet
+  nodes-0 length e h = simp (e, eq-eqb length (nodesOf s * s .len) h)
+
+  -- what an accepted nodes buffer has
+  pub record Sized (length : ℕ) : Type 0 where
+    pub starts : noStart s ≡ false
+    pub size : length ≡ nodesOf s * s .len
+
+  pub nodes-none : (length : ℕ) → firstMet (nodesChecks s length) ≡ 0 → NoneMet (nodesChecks s length)
+  unfolding nodesChecks
+  nodes-none length e = accepted (nodesChecks s length) refl e
+
+  pub sized : (length : ℕ) → firstMet (nodesChecks s length) ≡ 0 → Sized length
+  unfolding nodesChecks
+  sized length e =
+      let n = nodes-none length e in
+      record { starts = n .0; size = eqb-true _ _ (not-false _ (n .1 .0)) }

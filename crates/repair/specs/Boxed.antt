@@ -1,0 +1,71 @@
+-- Boxes and sessions: check, read and write (document 01, "The box" and "Write").
+use Prim.Native.Nat.{ℕ, _*_}
+use mathlib.Core.Bool.{Bool, true, false, cond, not}
+use mathlib.Core.List.{List, [], _∷_, _++_}
+use lib.ListN.{length, drop}
+use lib.Dec.{eqb, ltb}
+use Rattle.checks.specs.Checks.{Check, _gives_, firstMet}
+use Rattle.lists.specs.Lists.{someOutside, rises, someMissing, liveNodes}
+use Rattle.boxes.specs.Box.{familyIn, kIn, lengthIn, namesIn, bodiesIn, nodesIn, boxLength, boxChecks}
+use Rattle.boxes.specs.Bodies.{boxOf, withBodies}
+use Rattle.repair.specs.declared.Session.{Session}
+use Rattle.repair.specs.declared.Started.{Started}
+use Rattle.repair.specs.declared.Written.{Written}
+use Rattle.repair.specs.Session.{sessionOf, refusedStart, nodesOf, nodesChecks}
+
+-- the session of a box: the named nodes live
+abbrev pub sessionIn : List ℕ → Session
+sessionIn bytes = sessionOf (familyIn bytes) (kIn bytes) (lengthIn bytes) (namesIn bytes)
+
+-- a box that passes a list of checks gives its session
+abbrev pub boxAnswer : List ℕ → ℕ → Started
+boxAnswer bytes number = cond (eqb number 0) (record { refusal = 0; session = sessionIn bytes }) (refusedStart number)
+
+-- a box checked alone
+unfoldable pub checkedBox : List ℕ → Started
+checkedBox bytes = boxAnswer bytes (firstMet (boxChecks bytes))
+
+-- reading: the box's checks, then 6
+unfoldable pub readChecks : List ℕ → List ℕ → List Check
+readChecks bytes nodes = boxChecks bytes ++ ((not (eqb (length nodes) (nodesIn bytes * lengthIn bytes)) gives 6) ∷ [])
+
+-- what reading gives
+unfoldable pub readBox : List ℕ → List ℕ → Started
+readBox bytes nodes = boxAnswer bytes (firstMet (readChecks bytes nodes))
+
+-- the nodes buffer after reading: the bodies of the named nodes; places of missing nodes keep their bytes
+unfoldable pub nodesRead : List ℕ → List ℕ → List ℕ
+nodesRead bytes nodes = cond (eqb (firstMet (readChecks bytes nodes)) 0) (withBodies (lengthIn bytes) nodes (namesIn bytes) (bodiesIn bytes)) nodes
+
+-- an empty list stands for every live node
+abbrev pub listed : Session → List ℕ → List ℕ
+listed s [] = liveNodes (s .live) (nodesOf s)
+listed s (j ∷ list) = j ∷ list
+
+-- the length of the box that is written
+abbrev pub writtenLength : Session → List ℕ → ℕ
+writtenLength s list = boxLength (length (listed s list)) (s .len)
+
+-- Write: 13, 6 for the nodes, 4, 5, 12, 6 for the destination
+unfoldable pub writeChecks : Session → List ℕ → List ℕ → List ℕ → List Check
+writeChecks s nodes list out =
+    nodesChecks s (length nodes)
+    ++ ((someOutside (nodesOf s) list gives 4)
+    ∷ (not (rises list) gives 5)
+    ∷ (someMissing (s .live) list gives 12)
+    ∷ (ltb (length out) (writtenLength s list) gives 6)
+    ∷ [])
+
+-- what writing gives: the length, or the refusal's number; the session stays
+unfoldable pub written : Session → List ℕ → List ℕ → List ℕ → Written
+written s nodes list out =
+    cond (eqb (firstMet (writeChecks s nodes list out)) 0)
+    (record { refusal = 0; length = writtenLength s list; session = s })
+    (record { refusal = firstMet (writeChecks s nodes list out); length = 0; session = s })
+
+-- the destination afterwards: the box, and beyond it what was there
+unfoldable pub outWritten : Session → List ℕ → List ℕ → List ℕ → List ℕ
+outWritten s nodes list out =
+    cond (eqb (firstMet (writeChecks s nodes list out)) 0)
+    (boxOf (s .family) (s .k) (s .len) (listed s list) nodes ++ drop (writtenLength s list) out)
+    out

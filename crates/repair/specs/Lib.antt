@@ -1,0 +1,4 @@
+pub mod Session
+pub mod ReadOut
+pub mod Boxed
+pub mod Claims

@@ -1,0 +1,46 @@
+-- The session and its start (document 01, "The session").
+use Prim.Native.Nat.{ℕ, _*_}
+use mathlib.Core.Bool.{Bool, cond, not, _||_}
+use mathlib.Core.List.{List, [], _∷_, _++_}
+use lib.Dec.{eqb}
+use Rattle.families.specs.Families.{familyOf, nodeCount}
+use Rattle.checks.specs.Checks.{Check, _gives_, firstMet}
+use Rattle.checks.specs.Parameters.{parameterChecks}
+use Rattle.lists.specs.Lists.{someOutside, rises, noneLive, setLive, liveOutside}
+use Rattle.repair.specs.declared.Session.{Session}
+use Rattle.repair.specs.declared.Started.{Started}
+
+-- a family, k and L, and the nodes of a list live
+abbrev pub sessionOf : ℕ → ℕ → ℕ → List ℕ → Session
+sessionOf family k L list = record { family = family; k = k; len = L; live = setLive noneLive list }
+
+-- a refused start or box gives a session of zeros with every mark missing
+abbrev pub refusedStart : ℕ → Started
+refusedStart number = record { refusal = number; session = record { family = 0; k = 0; len = 0; live = noneLive } }
+
+-- Start: 1, 2, 3, 4 over the whole list, 5
+unfoldable pub startChecks : ℕ → ℕ → ℕ → List ℕ → List Check
+startChecks family k L list =
+    parameterChecks family k L
+    ++ ((someOutside (nodeCount (familyOf family) k) list gives 4)
+    ∷ (not (rises list) gives 5)
+    ∷ [])
+
+-- what a start gives
+unfoldable pub started : ℕ → ℕ → ℕ → List ℕ → Started
+started family k L list =
+    cond (eqb (firstMet (startChecks family k L list)) 0)
+    (record { refusal = 0; session = sessionOf family k L list })
+    (refusedStart (firstMet (startChecks family k L list)))
+
+-- n of a session's family and k
+abbrev pub nodesOf : Session → ℕ
+nodesOf s = nodeCount (familyOf (s .family)) (s .k)
+
+-- 13: its family, k or L is out of range, or a mark for 0 or above n is live
+unfoldable pub noStart : Session → Bool
+noStart s = not (eqb (firstMet (parameterChecks (s .family) (s .k) (s .len))) 0) || liveOutside (nodesOf s) (s .live)
+
+-- 13, then 6 where the nodes buffer is not n × L bytes: what every operation on a nodes buffer begins with
+unfoldable pub nodesChecks : Session → ℕ → List Check
+nodesChecks s nodesLength = (noStart s gives 13) ∷ (not (eqb nodesLength (nodesOf s * s .len)) gives 6) ∷ []

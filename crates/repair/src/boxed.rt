@@ -1,0 +1,148 @@
+// Boxes: checked alone, read into a nodes buffer, written.
+use crate::Session;
+use crate::Started;
+use crate::Written;
+use crate::start::refused;
+ghost use mathlib.Core.Path.{_≡_};
+ghost use mathlib.Core.Bool.{true, false, cond, not};
+ghost use mathlib.Core.List.{[], _∷_, _++_};
+ghost use Prim.Native.Nat.{ℕ, _*_, _≤_};
+ghost use lib.ListN.{length, drop};
+ghost use lib.Dec.{ltb};
+ghost use Rattle.checks.specs.Checks.{firstMet, _gives_};
+ghost use Rattle.lists.specs.Lists.{someOutside, rises, someMissing, liveNodes};
+ghost use Rattle.boxes.specs.Box.{boxLength, boxChecks};
+ghost use Rattle.boxes.specs.Bodies.{boxOf};
+ghost use Rattle.repair.specs.Session.{nodesOf, noStart, nodesChecks};
+ghost use Rattle.repair.specs.Boxed.{sessionIn, checkedBox, readBox, nodesRead, written, outWritten};
+
+// The session of an accepted box.
+fn box_session(bytes: &[u8]) -> Session
+    requires { ⌜ firstMet (boxChecks (now bytes)) ≡ 0 ⌝ }
+    ensures { λ r. ⌜ r ≡ sessionIn (now (bytes .entry)) ⌝ }
+{
+    let live = lists::marks_of(boxes::names(bytes));
+    Session {
+        family: boxes::family(bytes),
+        k: boxes::block_count(bytes),
+        len: boxes::block_length(bytes),
+        live: live,
+    }
+}
+
+impl Session {
+    // A box checked alone gives its session.
+    pub fn check(bytes: &[u8]) -> Started
+        ensures { λ r. ⌜ r ≡ checkedBox (now (bytes .entry)) ⌝ }
+    {
+        let bad = boxes::box_refusal(bytes);
+        if bad != 0 {
+            return refused(bad);
+        }
+        let session = box_session(bytes);
+        Started {
+            refusal: 0,
+            session: session,
+        }
+    }
+
+    // The bodies of a box are put in their places in the nodes buffer; places of missing nodes keep their bytes.
+    pub fn read(bytes: &[u8], nodes: &mut [u8]) -> Started
+        ensures { λ r. ⌜ r ≡ readBox (now (bytes .entry)) (now (nodes .entry)) ⌝ }
+        ensures { λ _. ⌜ now (nodes .exit) ≡ nodesRead (now (bytes .entry)) (now (nodes .entry)) ⌝ }
+    {
+        let bad = boxes::box_refusal(bytes);
+        if bad != 0 {
+            return refused(bad);
+        }
+        let len = boxes::block_length(bytes);
+        let n = boxes::node_count(bytes);
+        if nodes.len() != n * len {
+            return refused(6);
+        }
+        boxes::read_bodies(len, nodes, boxes::names(bytes), boxes::bodies(bytes));
+        let session = box_session(bytes);
+        Started {
+            refusal: 0,
+            session: session,
+        }
+    }
+
+    // 13, 6 for the nodes, 4, 5 or 12, or 0.
+    fn list_refusal(self, nodes: usize, list: &[u8]) -> u8
+        ensures { λ r. ⌜ r ≡ firstMet (nodesChecks self nodes ++ ((someOutside (nodesOf self) (now (list .entry)) gives 4) ∷ (not (rises (now (list .entry))) gives 5) ∷ (someMissing (self .live) (now (list .entry)) gives 12) ∷ [])) ⌝ }
+    {
+        let bad = self.nodes_refusal(nodes);
+        if bad != 0 {
+            return bad;
+        }
+        let n = families::node_count_of(self.family, self.k);
+        if lists::some_outside(n, list) {
+            return 4;
+        }
+        if !lists::is_rising(list) {
+            return 5;
+        }
+        let live = self.live;
+        if lists::some_missing(&live, list) {
+            return 12;
+        }
+        0
+    }
+
+    // The box of a rising list of live nodes, or 6 where the destination is too short.
+    fn write_listed(self, nodes: &[u8], list: &[u8], out: &mut [u8]) -> Written
+        requires { ⌜ (noStart self ≡ false) × (length (now nodes) ≡ nodesOf self * self .len) ⌝ }
+        requires { ⌜ (someOutside (nodesOf self) (now list) ≡ false) × (rises (now list) ≡ true) ⌝ }
+        ensures { λ r. ⌜ r ≡ cond (ltb (length (now (out .entry))) (boxLength (length (now (list .entry))) (self .len))) (record { refusal = 6; length = 0; session = self }) (record { refusal = 0; length = boxLength (length (now (list .entry))) (self .len); session = self }) ⌝ }
+        ensures { λ _. ⌜ now (out .exit) ≡ cond (ltb (length (now (out .entry))) (boxLength (length (now (list .entry))) (self .len))) (now (out .entry)) (boxOf (self .family) (self .k) (self .len) (now (list .entry)) (now (nodes .entry)) ++ drop (boxLength (length (now (list .entry))) (self .len)) (now (out .entry))) ⌝ }
+    {
+        let count = list.len();
+        let needed = 8 + count + count * self.len;
+        if out.len() < needed {
+            return Written {
+                refusal: 6,
+                length: 0,
+                session: self,
+            };
+        }
+        boxes::write_box(self.family, self.k, self.len, list, nodes, out);
+        Written {
+            refusal: 0,
+            length: needed,
+            session: self,
+        }
+    }
+
+    // The box of every live node, or 6 where the destination is too short.
+    fn write_live(self, nodes: &[u8], out: &mut [u8]) -> Written
+        requires { ⌜ (noStart self ≡ false) × (length (now nodes) ≡ nodesOf self * self .len) ⌝ }
+        ensures { λ r. ⌜ r ≡ cond (ltb (length (now (out .entry))) (boxLength (length (liveNodes (self .live) (nodesOf self))) (self .len))) (record { refusal = 6; length = 0; session = self }) (record { refusal = 0; length = boxLength (length (liveNodes (self .live) (nodesOf self))) (self .len); session = self }) ⌝ }
+        ensures { λ _. ⌜ now (out .exit) ≡ cond (ltb (length (now (out .entry))) (boxLength (length (liveNodes (self .live) (nodesOf self))) (self .len))) (now (out .entry)) (boxOf (self .family) (self .k) (self .len) (liveNodes (self .live) (nodesOf self)) (now (nodes .entry)) ++ drop (boxLength (length (liveNodes (self .live) (nodesOf self))) (self .len)) (now (out .entry))) ⌝ }
+    {
+        let n = families::node_count_of(self.family, self.k);
+        let live = self.live;
+        let all = lists::list_live(&live, n);
+        let count = lists::count_live(&live, n);
+        self.write_listed(nodes, &all[..count], out)
+    }
+
+    // The box of the listed nodes, all of them live; an empty list stands for every live node.
+    pub fn write(self, nodes: &[u8], list: &[u8], out: &mut [u8]) -> Written
+        ensures { λ r. ⌜ r ≡ written self (now (nodes .entry)) (now (list .entry)) (now (out .entry)) ⌝ }
+        ensures { λ _. ⌜ now (out .exit) ≡ outWritten self (now (nodes .entry)) (now (list .entry)) (now (out .entry)) ⌝ }
+    {
+        let bad = self.list_refusal(nodes.len(), list);
+        if bad != 0 {
+            return Written {
+                refusal: bad,
+                length: 0,
+                session: self,
+            };
+        }
+        if list.len() == 0 {
+            return self.write_live(nodes, out);
+        }
+        self.write_listed(nodes, list, out)
+    }
+}

@@ -1,0 +1,33 @@
+// Sessions: which nodes of an object are live, and what is done with them.
+mod boxed;
+mod out;
+mod start;
+
+// A family, k and L, and a mark for each node number, live or missing. It is plain data: whatever a caller puts into one is
+// refused by the first check of an operation where no start gives it.
+pub struct Session {
+    pub family: usize,
+    pub k: usize,
+    pub len: usize,
+    pub live: [bool; 256],
+}
+
+// What a start or a box gives: 0 and the session, or the refusal's number and a session of zeros.
+pub struct Started {
+    pub refusal: u8,
+    pub session: Session,
+}
+
+// What writing a box gives: its length, or the refusal's number and 0.
+pub struct Written {
+    pub refusal: u8,
+    pub length: usize,
+    pub session: Session,
+}
+
+// What reading out gives: 0, or the refusal's number, and with 14 the lowest data block whose node is missing.
+pub struct ReadOut {
+    pub refusal: u8,
+    pub block: usize,
+    pub session: Session,
+}

@@ -1,0 +1,86 @@
+// Start, and whether a session is one that some start gives.
+use crate::Session;
+use crate::Started;
+ghost use mathlib.Core.Path.{_≡_};
+ghost use Rattle.checks.specs.Checks.{firstMet};
+ghost use Rattle.repair.specs.Session.{refusedStart, startChecks, started, noStart, nodesChecks};
+
+// A refused start or box: a session of zeros with every mark missing.
+pub fn refused(number: u8) -> Started
+    ensures { λ r. ⌜ r ≡ refusedStart number ⌝ }
+{
+    Started {
+        refusal: number,
+        session: Session {
+            family: 0,
+            k: 0,
+            len: 0,
+            live: [false; 256],
+        },
+    }
+}
+
+// The first check of a start that is met, or 0.
+fn start_refusal(family: usize, k: usize, len: usize, list: &[u8]) -> u8
+    ensures { λ r. ⌜ r ≡ firstMet (startChecks family k len (now (list .entry))) ⌝ }
+{
+    let bad = checks::parameter_refusal(family, k, len);
+    if bad != 0 {
+        return bad;
+    }
+    let n = families::node_count_of(family, k);
+    if lists::some_outside(n, list) {
+        return 4;
+    }
+    if lists::is_rising(list) {
+        return 0;
+    }
+    5
+}
+
+impl Session {
+    // A session with the nodes of a strictly rising list live.
+    pub fn start(family: usize, k: usize, len: usize, list: &[u8]) -> Started
+        ensures { λ r. ⌜ r ≡ started family k len (now (list .entry)) ⌝ }
+    {
+        let bad = start_refusal(family, k, len, list);
+        if bad != 0 {
+            return refused(bad);
+        }
+        let live = lists::marks_of(list);
+        Started {
+            refusal: 0,
+            session: Session {
+                family: family,
+                k: k,
+                len: len,
+                live: live,
+            },
+        }
+    }
+
+    // Whether no start gives this session.
+    pub fn has_no_start(self) -> bool
+        ensures { λ r. ⌜ r ≡ noStart self ⌝ }
+    {
+        if checks::parameter_refusal(self.family, self.k, self.len) != 0 {
+            return true;
+        }
+        let n = families::node_count_of(self.family, self.k);
+        let live = self.live;
+        lists::live_outside(n, &live)
+    }
+    // 13, or 6 for a nodes buffer that is not n × L bytes long, or 0.
+    pub fn nodes_refusal(self, nodes: usize) -> u8
+        ensures { λ r. ⌜ r ≡ firstMet (nodesChecks self nodes) ⌝ }
+    {
+        if self.has_no_start() {
+            return 13;
+        }
+        let n = families::node_count_of(self.family, self.k);
+        if nodes != n * self.len {
+            return 6;
+        }
+        0
+    }
+}
