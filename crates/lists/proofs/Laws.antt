@@ -34,7 +34,7 @@ outside-none n [] o i h = absurd (omega arith)
 outside-none n (x ∷ list) o zero h = outside-both n x list o .0
 outside-none n (x ∷ list) o (suc i) h = outside-none n list (outside-both n x list o .1) i (omega arith)
 
-outside-more : (m n : ℕ) (list : List ℕ) → m ≤ n → someOutside m list ≡ false → someOutside n list ≡ false
+pub outside-more : (m n : ℕ) (list : List ℕ) → m ≤ n → someOutside m list ≡ false → someOutside n list ≡ false
 unfolding someOutside
 outside-more m n [] h o = refl
 outside-more m n (x ∷ list) h o =

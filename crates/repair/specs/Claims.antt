@@ -48,7 +48,7 @@ pub record WriteReadClaims (s : Session) (nodes list out : List ℕ) : Type 0 wh
       → blockOf (s .len) (nodesRead (boxWritten s nodes list out) other) (getD (listed s list) i 0) ≡ blockOf (s .len) nodes (getD (listed s list) i 0)
 
 abbrev pub WriteReadClaim : Type 0
-WriteReadClaim = (s : Session) (nodes list out : List ℕ) → length (s .live) ≡ 256 → firstMet (writeChecks s nodes list out) ≡ 0 → WriteReadClaims s nodes list out
+WriteReadClaim = (s : Session) (nodes list out : List ℕ) → firstMet (writeChecks s nodes list out) ≡ 0 → WriteReadClaims s nodes list out
 
 -- ---- read, then write
 
@@ -63,7 +63,7 @@ ReadWriteClaim = (bytes nodes out : List ℕ) → ((i : ℕ) → getD bytes i 0 
 -- an object that is encoded, written to a box from a session, read into whatever buffer and read out, where that is accepted,
 -- is the object put in
 abbrev pub RoundTripClaim : Type 0
-RoundTripClaim = (s : Session) (object list out other result : List ℕ) → length (s .live) ≡ 256 → length object ≡ s .k * s .len
+RoundTripClaim = (s : Session) (object list out other result : List ℕ) → length object ≡ s .k * s .len
     → firstMet (writeChecks s (nodesBuffer (familyOf (s .family)) (s .k) (s .len) object) list out) ≡ 0
     → length other ≡ nodesOf s * s .len
     → firstMet (readOutChecks (sessionOf (s .family) (s .k) (s .len) (listed s list))

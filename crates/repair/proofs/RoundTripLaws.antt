@@ -1,0 +1,206 @@
+-- What an accepted write says and what its box checks and reads to, and how an accepted box that is read is written again.
+-- Assumes nothing.
+use mathlib.Core.Path.{_≡_, refl, sym, ap, _∙_}
+use mathlib.Core.Bool.{true, false, not}
+use mathlib.Core.List.{List, [], _∷_, _++_}
+use Prim.Native.Nat.{ℕ, _*_, _≤_, _<_}
+use native.Mathlib.Omega.{arith}
+use borrow.Author.Tests.{eqb-true, eq-eqb, le-ltb, not-false}
+use lib.Dec.{eqb}
+use lib.ListN.{length, getD, drop}
+use lib.Seq.{take-at}
+use Rattle.families.specs.Families.{familyOf}
+use Rattle.families.proofs.Laws.{few}
+use Rattle.checks.specs.Checks.{Check, _gives_, firstMet}
+use Rattle.checks.proofs.Laws.{InRange, accepted, none-append}
+use Rattle.blocks.specs.Blocks.{blockOf}
+use Rattle.lists.specs.Lists.{someOutside, rises, someMissing, liveNodes}
+use Rattle.lists.proofs.Laws.{live-nodes-of-list, live-nodes-inside, live-nodes-rise, live-nodes-live, list-outside-none, rising-few}
+use Rattle.boxes.specs.Box.{familyIn, kIn, lengthIn, namesIn, bodiesIn, nodesIn, boxChecks}
+use Rattle.boxes.specs.Bodies.{bodiesOf, boxOf, withBodies}
+use Rattle.boxes.specs.Places.{ListIn}
+use Rattle.boxes.proofs.Answers.{none-zero, box-none}
+use Rattle.boxes.proofs.Laws.{AcceptedBox, accepted-box, box-accepted, FieldsOf, fields-of, box-of-fields, length-boxOf, length-withBodies, bodies-there, bodies-same, list-in, parameters-in}
+use Rattle.repair.specs.declared.Session.{Session}
+use Rattle.repair.specs.Session.{sessionOf, nodesOf, noStart, nodesChecks}
+use Rattle.repair.specs.Boxed.{sessionIn, checkedBox, readChecks, nodesRead, listed, writtenLength, writeChecks, outWritten}
+use Rattle.repair.specs.Claims.{boxWritten}
+use Rattle.repair.proofs.StartLaws.{known, no-start-marks}
+
+-- ---- the nodes that are written
+
+-- the numbers of a list are those of nodes, and rise
+pub record Good (n : ℕ) (list : List ℕ) : Type 0 where
+  pub outside : someOutside n list ≡ false
+  pub rising : rises list ≡ true
+
+-- the live nodes are so, for which an empty list stands
+pub live-good : (s : Session) → Good (nodesOf s) (liveNodes (s .live) (nodesOf s))
+live-good s = record { outside = live-nodes-inside (s .live) (nodesOf s); rising = live-nodes-rise (s .live) (nodesOf s) }
+
+listed-good : (s : Session) (list : List ℕ) → Good (nodesOf s) list → Good (nodesOf s) (listed s list)
+listed-good s [] g = live-good s
+listed-good s (j ∷ list) g = g
+
+-- what an accepted write says
+pub record AcceptedWrite (s : Session) (nodes list : List ℕ) : Type 0 where
+  pub range : InRange (s .family) (s .k) (s .len)
+  pub size : length nodes ≡ nodesOf s * s .len
+  pub good : Good (nodesOf s) (listed s list)
+
+pub accepted-write : (s : Session) (nodes list out : List ℕ) → firstMet (writeChecks s nodes list out) ≡ 0 → AcceptedWrite s nodes list
+unfolding writeChecks nodesChecks
+accepted-write s nodes list out e =
+    let n = accepted (writeChecks s nodes list out) refl e in
+    record {
+      range = known s (n .0) .range;
+      size = eqb-true (length nodes) (nodesOf s * s .len) (not-false _ (n .1 .0));
+      good = listed-good s list (record { outside = n .1 .1 .0; rising = not-false (rises list) (n .1 .1 .1 .0) });
+    }
+
+-- ---- the box that a write leaves, checked and read
+
+module _ (s : Session) (nodes list out : List ℕ) (e : firstMet (writeChecks s nodes list out) ≡ 0) where
+  says : AcceptedWrite s nodes list
+  says = accepted-write s nodes list out e
+
+  -- a buffer of n × L bytes has the listed nodes
+  listed-in : (buffer : List ℕ) → length buffer ≡ nodesOf s * s .len → ListIn (s .len) buffer (listed s list)
+  listed-in buffer h = list-in (s .len) (nodesOf s) buffer (listed s list) h (says .good .outside)
+
+  -- what is left is the box of the listed nodes
+  box-written : boxWritten s nodes list out ≡ boxOf (s .family) (s .k) (s .len) (listed s list) nodes
+  unfolding outWritten
+  box-written =
+      rw e
+      (take-at (boxOf (s .family) (s .k) (s .len) (listed s list) nodes) (drop (writtenLength s list) out) (writtenLength s list)
+      (length-boxOf (s .family) (s .k) (s .len) (listed s list) nodes (listed-in nodes (says .size))))
+
+  -- and it is accepted
+  box-passes : firstMet (boxChecks (boxOf (s .family) (s .k) (s .len) (listed s list) nodes)) ≡ 0
+  box-passes =
+      let g = says .good in
+      box-accepted (s .family) (s .k) (s .len) (listed s list) nodes (says .range) (g .outside) (g .rising)
+      (rising-few (nodesOf s) (listed s list) (g .outside) (g .rising)) (says .size)
+
+  fields : FieldsOf (s .family) (s .k) (s .len) (listed s list) nodes
+  fields = fields-of (s .family) (s .k) (s .len) (listed s list) nodes
+
+  -- it checks to the session of the listed nodes
+  pub box-checked : checkedBox (boxWritten s nodes list out) ≡ record { refusal = 0; session = sessionOf (s .family) (s .k) (s .len) (listed s list) }
+  unfolding checkedBox
+  box-checked = ap checkedBox box-written ∙ rw (box-passes, fields .names-is, fields .length-is, fields .k-is, fields .family-is)
+
+  module _ (other : List ℕ) (h : length other ≡ nodesOf s * s .len) where
+    reads : firstMet (readChecks (boxOf (s .family) (s .k) (s .len) (listed s list) nodes) other) ≡ 0
+    unfolding readChecks firstMet
+    reads =
+        let box = boxOf (s .family) (s .k) (s .len) (listed s list) nodes in
+        none-append (boxChecks box) _ (box-none box box-passes)
+        ∙ rw (fields .length-is, fields .k-is, fields .family-is, eq-eqb (length other) (nodesOf s * s .len) h)
+
+    -- it reads into a buffer of n × L bytes
+    pub box-reads : firstMet (readChecks (boxWritten s nodes list out) other) ≡ 0
+    box-reads = ap (λ (x : List ℕ). firstMet (readChecks x other)) box-written ∙ reads
+
+    -- the bodies of the buffer that was written
+    box-read : nodesRead (boxWritten s nodes list out) other ≡ withBodies (s .len) other (listed s list) (bodiesOf (s .len) nodes (listed s list))
+    unfolding nodesRead
+    box-read = ap (λ (x : List ℕ). nodesRead x other) box-written ∙ rw (reads, fields .bodies-is, fields .names-is, fields .length-is)
+
+    pub bodies-read : (i : ℕ) → i < length (listed s list)
+        → blockOf (s .len) (nodesRead (boxWritten s nodes list out) other) (getD (listed s list) i 0) ≡ blockOf (s .len) nodes (getD (listed s list) i 0)
+    bodies-read i l = rw box-read (bodies-same (s .len) nodes other (listed s list) i (says .good .rising) (listed-in nodes (says .size)) (listed-in other h) l)
+
+-- ---- an accepted box, read
+
+-- where none of two lists of checks is met, none of the first is
+front-none : (checks later : List Check) → firstMet (checks ++ later) ≡ 0 → firstMet checks ≡ 0
+unfolding firstMet
+front-none [] later e = refl
+front-none ((true gives n) ∷ checks) later e = e
+front-none ((false gives n) ∷ checks) later e = front-none checks later e
+
+-- what an accepted read says
+record AcceptedRead (bytes nodes : List ℕ) : Type 0 where
+  passes : firstMet (boxChecks bytes) ≡ 0
+  size : length nodes ≡ nodesIn bytes * lengthIn bytes
+
+accepted-read : (bytes nodes : List ℕ) → firstMet (readChecks bytes nodes) ≡ 0 → AcceptedRead bytes nodes
+unfolding readChecks
+accepted-read bytes nodes e =
+    let sizes = (not (eqb (length nodes) (nodesIn bytes * lengthIn bytes)) gives 6) ∷ [] in
+    let p = front-none (boxChecks bytes) sizes e in
+    let n = accepted sizes refl (sym (none-append (boxChecks bytes) sizes (box-none bytes p)) ∙ e) in
+    record { passes = p; size = eqb-true _ _ (not-false _ (n .0)) }
+
+-- the named nodes are what the session of an accepted box lists, by an empty list and by their own
+module _ (bytes : List ℕ) (a : AcceptedBox bytes) where
+  few-nodes : nodesIn bytes ≤ 255
+  few-nodes = few (familyOf (familyIn bytes)) (kIn bytes) (a .range .blocks)
+
+  all-listed : listed (sessionIn bytes) [] ≡ namesIn bytes
+  all-listed = live-nodes-of-list (nodesIn bytes) (namesIn bytes) few-nodes (a .nodes) (a .rising)
+
+  names-listed : listed (sessionIn bytes) (namesIn bytes) ≡ namesIn bytes
+  names-listed = go (namesIn bytes) refl
+    where
+      go : (list : List ℕ) → namesIn bytes ≡ list → listed (sessionIn bytes) list ≡ list
+      go [] e = all-listed ∙ e
+      go (j ∷ list) e = refl
+
+  -- each is live there
+  names-live : someMissing (sessionIn bytes .live) (namesIn bytes) ≡ false
+  names-live = rw all-listed at (live-nodes-live (sessionIn bytes .live) (nodesIn bytes))
+
+  -- some start gives that session
+  box-starts : noStart (sessionIn bytes) ≡ false
+  box-starts =
+      no-start-marks (sessionIn bytes) (parameters-in (familyIn bytes) (kIn bytes) (lengthIn bytes) (a .range))
+      ∙ list-outside-none (nodesIn bytes) (namesIn bytes) few-nodes (a .nodes)
+
+-- ---- and written again
+
+module _ (bytes nodes : List ℕ) (e : firstMet (readChecks bytes nodes) ≡ 0) where
+  passed : AcceptedBox bytes
+  passed = accepted-box bytes (accepted-read bytes nodes e .passes)
+
+  names-in : ListIn (lengthIn bytes) nodes (namesIn bytes)
+  names-in = list-in (lengthIn bytes) (nodesIn bytes) nodes (namesIn bytes) (accepted-read bytes nodes e .size) (passed .nodes)
+
+  -- as many bodies as names
+  bodies-held : length (bodiesIn bytes) ≡ length (namesIn bytes) * lengthIn bytes
+  bodies-held = rw (passed .names-size) (passed .bodies-size)
+
+  -- what was read
+  read-is : nodesRead bytes nodes ≡ withBodies (lengthIn bytes) nodes (namesIn bytes) (bodiesIn bytes)
+  unfolding nodesRead
+  read-is = rw e
+
+  read-size : length (nodesRead bytes nodes) ≡ nodesIn bytes * lengthIn bytes
+  read-size = rw read-is (length-withBodies (lengthIn bytes) nodes (namesIn bytes) (bodiesIn bytes) names-in bodies-held ∙ accepted-read bytes nodes e .size)
+
+  module _ (byte : (i : ℕ) → getD bytes i 0 < 256) (out : List ℕ) (room : length bytes ≤ length out) where
+    -- the box of what was read is the box
+    box-again : boxOf (familyIn bytes) (kIn bytes) (lengthIn bytes) (namesIn bytes) (nodesRead bytes nodes) ≡ bytes
+    box-again =
+        box-of-fields bytes (nodesRead bytes nodes) byte (accepted-read bytes nodes e .passes)
+        (rw read-is (bodies-there (lengthIn bytes) nodes (namesIn bytes) (bodiesIn bytes) (passed .rising) names-in bodies-held))
+
+    -- by a list that stands for the named nodes
+    again : (list : List ℕ) → Good (nodesIn bytes) list → someMissing (sessionIn bytes .live) list ≡ false → listed (sessionIn bytes) list ≡ namesIn bytes
+        → outWritten (sessionIn bytes) (nodesRead bytes nodes) list out ≡ bytes ++ drop (length bytes) out
+    unfolding outWritten writeChecks nodesChecks
+    again list g m q =
+        let long : writtenLength (sessionIn bytes) list ≡ length bytes = rw (q, passed .names-size) (sym (passed .size)) in
+        let none : firstMet (writeChecks (sessionIn bytes) (nodesRead bytes nodes) list out) ≡ 0
+        = none-zero (writeChecks (sessionIn bytes) (nodesRead bytes nodes) list out)
+        (box-starts bytes passed, (ap not (eq-eqb _ _ read-size), (g .outside, (ap not (g .rising), (m, (le-ltb (length out) (writtenLength (sessionIn bytes) list) (omega arith), tt)))))) in
+        rw (none, long, q, box-again)
+
+    pub again-all : outWritten (sessionIn bytes) (nodesRead bytes nodes) [] out ≡ bytes ++ drop (length bytes) out
+    unfolding someOutside rises someMissing
+    again-all = again [] (record { outside = refl; rising = refl }) refl (all-listed bytes passed)
+
+    pub again-named : outWritten (sessionIn bytes) (nodesRead bytes nodes) (namesIn bytes) out ≡ bytes ++ drop (length bytes) out
+    again-named = again (namesIn bytes) (record { outside = passed .nodes; rising = passed .rising }) (names-live bytes passed) (names-listed bytes passed)
