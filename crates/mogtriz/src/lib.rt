@@ -1,4 +1,6 @@
 // The C interface, include/mogtriz.h: numbers come in as `size_t`, and one that is out of range is refused, never cut.
+pub mod sessions;
+
 ghost use mathlib.Core.Path.{_≡_};
 ghost use Rattle.encoding.specs.Encode.{encodeAnswer, encoded};
 ghost use Rattle.mogtriz.specs.Exports.{nodeCountOr0, isNode, columnOr0, nodeOr0, relatedOr0};

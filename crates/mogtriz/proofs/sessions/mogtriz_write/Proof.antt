@@ -1,0 +1,44 @@
+-- `mogtriz::sessions::mogtriz_write` meets its contract: a byte above 1 is refused before any other check, and else it is the session's own write.
+-- Assumes nothing.
+-- Assumes nothing.
+use mathlib.Core.Path.{sym, _∙_}
+use Rattle.mogtriz.specs.Sessions.{writtenC, outWrittenC}
+use borrow.Author.Needs.{needs}
+use Rattle.mogtriz.proofs.sessions.mogtriz_write.Statement.{statement}
+use Rattle.mogtriz.proofs.sessions.mogtriz_write.Tie as tie
+
+has-other-marks-requires : tie.Need-has-other-marks-requires
+has-other-marks-requires c κs = tt
+
+returns : tie.Need-returns
+unfolding writtenC outWrittenC
+returns c = let h = sym (c .before .has-other-marks .ensures) ∙ c .if1 .taken in (rw h, rw h)
+
+session-requires : tie.Need-session-requires
+session-requires c κs = tt
+
+write-requires : tie.Need-write-requires
+write-requires c κs = tt
+
+same-length : tie.Need-same-length
+same-length c = search needs
+
+returns-2 : tie.Need-returns-2
+unfolding writtenC outWrittenC
+returns-2 c =
+    let w = c .before .before .write .ensures in
+    let z = c .before .before .before .before .session .ensures in
+    let e = c .before .before .before .before .before in
+    let h = sym (e .before .has-other-marks .ensures) ∙ e .if1 .left in
+    (rw (h, w .0, z), rw h (w .1 ∙ rw z))
+
+pub mogtriz-write-spec : {M : Type 1} → statement M
+mogtriz-write-spec =
+    tie.close
+    (tie.spec
+    has-other-marks-requires
+    returns
+    session-requires
+    write-requires
+    same-length
+    returns-2)

@@ -1,0 +1,243 @@
+// Sessions and boxes from C. A session's marks come as bytes, since another value than 0 or 1 in a `bool` is undefined: a
+// session with a byte above 1 is one that no start gives.
+use repair::Session;
+ghost use mathlib.Core.Path.{_≡_};
+ghost use Rattle.mogtriz.specs.Sessions.{byteOf, bytesOf, marksOf, someAbove1, sessionOfC, startedC, writtenC, outWrittenC, readOutC, objectOutC, partIn};
+ghost use Rattle.repair.specs.Session.{started};
+ghost use Rattle.repair.specs.Boxed.{checkedBox, readBox, nodesRead};
+
+// C's mogtriz_session.
+#[repr(C)]
+pub struct MarkedSession {
+    pub family: usize,
+    pub k: usize,
+    pub len: usize,
+    pub live: [u8; 256],
+}
+
+// C's mogtriz_started.
+#[repr(C)]
+pub struct StartAnswer {
+    pub refusal: u8,
+    pub session: MarkedSession,
+}
+
+// C's mogtriz_written.
+#[repr(C)]
+pub struct WriteAnswer {
+    pub refusal: u8,
+    pub length: usize,
+    pub session: MarkedSession,
+}
+
+// C's mogtriz_read_out_answer.
+#[repr(C)]
+pub struct ReadOutAnswer {
+    pub refusal: u8,
+    pub block: usize,
+    pub session: MarkedSession,
+}
+
+// C's mogtriz_part.
+#[repr(C)]
+pub struct Part {
+    pub refusal: u8,
+    pub from: usize,
+    pub length: usize,
+}
+
+// The byte of a mark.
+fn byte_of(live: bool) -> u8
+    ensures { λ r. ⌜ r ≡ byteOf live ⌝ }
+{
+    if live {
+        return 1;
+    }
+    0
+}
+
+// A byte for each mark: 1 live, 0 missing.
+fn bytes_of(marks: [bool; 256]) -> [u8; 256]
+    ensures { λ r. ⌜ r ≡ bytesOf marks ⌝ }
+{
+    let mut bytes = [0u8; 256];
+    let mut j: usize = 0;
+    while j < 256 {
+        bytes[j] = byte_of(marks[j]);
+        j += 1;
+    }
+    bytes
+}
+
+// A mark for each byte: 1 live, any other missing.
+fn marks_of(bytes: [u8; 256]) -> [bool; 256]
+    ensures { λ r. ⌜ r ≡ marksOf bytes ⌝ }
+{
+    let mut marks = [false; 256];
+    let mut j: usize = 0;
+    while j < 256 {
+        marks[j] = bytes[j] == 1;
+        j += 1;
+    }
+    marks
+}
+
+// Whether a byte is neither 0 nor 1.
+fn some_above_1(bytes: [u8; 256]) -> bool
+    ensures { λ r. ⌜ r ≡ someAbove1 bytes ⌝ }
+{
+    let mut j: usize = 0;
+    while j < 256 {
+        if 1 < bytes[j] {
+            return true;
+        }
+        j += 1;
+    }
+    false
+}
+
+// The part of a box that is the body of node j.
+fn part_of(bytes: &[u8], j: usize) -> Part
+    ensures { λ r. ⌜ r ≡ partIn (now (bytes .entry)) j ⌝ }
+{
+    let bad = boxes::body_refusal(bytes, j);
+    if bad != 0 {
+        return Part {
+            refusal: bad,
+            from: 0,
+            length: 0,
+        };
+    }
+    let len = boxes::block_length(bytes);
+    let place = lists::place_in(boxes::names(bytes), j);
+    Part {
+        refusal: 0,
+        from: 8 + boxes::held(bytes) + place * len,
+        length: len,
+    }
+}
+
+impl MarkedSession {
+    // The session that C's is, where every byte is 0 or 1.
+    fn session(self) -> Session
+        ensures { λ r. ⌜ r ≡ sessionOfC self ⌝ }
+    {
+        let bytes = self.live;
+        let live = marks_of(bytes);
+        Session {
+            family: self.family,
+            k: self.k,
+            len: self.len,
+            live: live,
+        }
+    }
+
+    fn has_other_marks(self) -> bool
+        ensures { λ r. ⌜ r ≡ someAbove1 (self .live) ⌝ }
+    {
+        let bytes = self.live;
+        some_above_1(bytes)
+    }
+}
+
+// What a start or a box gives, for C.
+fn for_c(answer: repair::Started) -> StartAnswer
+    ensures { λ r. ⌜ r ≡ startedC answer ⌝ }
+{
+    let session = answer.session;
+    let marks = session.live;
+    let bytes = bytes_of(marks);
+    StartAnswer {
+        refusal: answer.refusal,
+        session: MarkedSession {
+            family: session.family,
+            k: session.k,
+            len: session.len,
+            live: bytes,
+        },
+    }
+}
+
+// A session with the nodes of a list live.
+#[no_mangle]
+pub extern "C" fn mogtriz_start(family: usize, k: usize, len: usize, list: &[u8]) -> StartAnswer
+    ensures { λ r. ⌜ r ≡ startedC (started family k len (now (list .entry))) ⌝ }
+{
+    for_c(Session::start(family, k, len, list))
+}
+
+// A box checked alone.
+#[no_mangle]
+pub extern "C" fn mogtriz_check(bytes: &[u8]) -> StartAnswer
+    ensures { λ r. ⌜ r ≡ startedC (checkedBox (now (bytes .entry))) ⌝ }
+{
+    for_c(Session::check(bytes))
+}
+
+// A box read into a nodes buffer.
+#[no_mangle]
+pub extern "C" fn mogtriz_read(bytes: &[u8], nodes: &mut [u8]) -> StartAnswer
+    ensures { λ r. ⌜ r ≡ startedC (readBox (now (bytes .entry)) (now (nodes .entry))) ⌝ }
+    ensures { λ _. ⌜ now (nodes .exit) ≡ nodesRead (now (bytes .entry)) (now (nodes .entry)) ⌝ }
+{
+    for_c(Session::read(bytes, nodes))
+}
+
+// The body of one node, as a part of the box.
+#[no_mangle]
+pub extern "C" fn mogtriz_body(bytes: &[u8], node: usize) -> Part
+    ensures { λ r. ⌜ r ≡ partIn (now (bytes .entry)) node ⌝ }
+{
+    part_of(bytes, node)
+}
+
+// A box of the listed live nodes.
+#[no_mangle]
+pub extern "C" fn mogtriz_write(
+    session: MarkedSession,
+    nodes: &[u8],
+    list: &[u8],
+    out: &mut [u8],
+) -> WriteAnswer
+    ensures { λ r. ⌜ r ≡ writtenC session (now (nodes .entry)) (now (list .entry)) (now (out .entry)) ⌝ }
+    ensures { λ _. ⌜ now (out .exit) ≡ outWrittenC session (now (nodes .entry)) (now (list .entry)) (now (out .entry)) ⌝ }
+{
+    if session.has_other_marks() {
+        return WriteAnswer {
+            refusal: 13,
+            length: 0,
+            session: session,
+        };
+    }
+    let answer = session.session().write(nodes, list, out);
+    WriteAnswer {
+        refusal: answer.refusal,
+        length: answer.length,
+        session: session,
+    }
+}
+
+// The k data blocks.
+#[no_mangle]
+pub extern "C" fn mogtriz_read_out(
+    session: MarkedSession,
+    nodes: &[u8],
+    object: &mut [u8],
+) -> ReadOutAnswer
+    ensures { λ r. ⌜ r ≡ readOutC session (now (nodes .entry)) (now (object .entry)) ⌝ }
+    ensures { λ _. ⌜ now (object .exit) ≡ objectOutC session (now (nodes .entry)) (now (object .entry)) ⌝ }
+{
+    if session.has_other_marks() {
+        return ReadOutAnswer {
+            refusal: 13,
+            block: 0,
+            session: session,
+        };
+    }
+    let answer = session.session().read_out(nodes, object);
+    ReadOutAnswer {
+        refusal: answer.refusal,
+        block: answer.block,
+        session: session,
+    }
+}
