@@ -49,6 +49,79 @@ size_t mogtriz_node_of_column(size_t family, size_t k, size_t column);
  */
 uint8_t mogtriz_related(size_t family, size_t k, size_t a, size_t b, size_t c);
 
+/*
+ * A session: a family, k and len, and a mark for each node number, 1 live and 0 missing; those for 0 and above n are never
+ * live. It goes in by value and comes back by value. Any content may be handed in: where no start gives it (a number out of
+ * range, a mark for 0 or above n that is live, or a mark that is neither 0 nor 1) the answer is 13.
+ */
+typedef struct {
+    size_t family;
+    size_t k;
+    size_t len;
+    uint8_t live[256];
+} mogtriz_session;
+
+/* What a start or a box gives: 0 and the session, or the refusal's number and a session of zeros. */
+typedef struct {
+    uint8_t refusal;
+    mogtriz_session session;
+} mogtriz_started;
+
+/* What writing gives: 0 and the box's length, or the refusal's number and 0; the session as it was handed in. */
+typedef struct {
+    uint8_t refusal;
+    size_t length;
+    mogtriz_session session;
+} mogtriz_written;
+
+/* What reading out gives: 0, or the refusal's number, and with 14 the lowest data block whose node is missing. */
+typedef struct {
+    uint8_t refusal;
+    size_t block;
+    mogtriz_session session;
+} mogtriz_read_out_answer;
+
+/* A part of a box: `length` bytes from place `from` on; 0 and 0 with a refusal's number. */
+typedef struct {
+    uint8_t refusal;
+    size_t from;
+    size_t length;
+} mogtriz_part;
+
+/*
+ * A session with the nodes of a list live, a byte a node, strictly rising; an empty list sets none.
+ *   1, 2, 3 as above   4  a node number is 0 or above n   5  the list does not strictly rise
+ */
+mogtriz_started mogtriz_start(size_t family, size_t k, size_t len, const uint8_t *list, size_t list_len);
+
+/*
+ * A box checked alone, which gives its session.
+ *   7  under 8 bytes   1, 2, 3 as above   8  a byte of 5 to 7 is not zero   7  the length is not as its contents say
+ *   9  E is above n    4  a node number is 0 or above n    5  the list does not strictly rise
+ */
+mogtriz_started mogtriz_check(const uint8_t *box, size_t box_len);
+
+/* A box read into a nodes buffer: its checks, then 6 where nodes_len is not n * len. Places of missing nodes keep their bytes. */
+mogtriz_started mogtriz_read(const uint8_t *box, size_t box_len, uint8_t *nodes, size_t nodes_len);
+
+/* The body of one node, as a part of the box: its checks, then 4, and 12 where the node is not in the box. */
+mogtriz_part mogtriz_body(const uint8_t *box, size_t box_len, size_t node);
+
+/*
+ * A box of the listed live nodes; an empty list stands for every live node. Nothing beyond the length is written.
+ *   13  no start gives this session   6  nodes_len is not n * len   4, 5 as above   12  a listed node is missing
+ *   6  the destination is shorter than the box
+ */
+mogtriz_written mogtriz_write(mogtriz_session session, const uint8_t *nodes, size_t nodes_len, const uint8_t *list,
+                              size_t list_len, uint8_t *out, size_t out_len);
+
+/*
+ * The k data blocks, from the nodes that hold one each: 13, then 6 where nodes_len is not n * len or object_len is not
+ * k * len, then 14 where a data block's node is missing.
+ */
+mogtriz_read_out_answer mogtriz_read_out(mogtriz_session session, const uint8_t *nodes, size_t nodes_len, uint8_t *object,
+                                         size_t object_len);
+
 #ifdef __cplusplus
 }
 #endif

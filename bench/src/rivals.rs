@@ -1,11 +1,22 @@
-//! The library's way to encode, in safe Rust, with a block XOR of the caller's choice. Which blocks go
-//! where is worked out beforehand, so that a rival's time is that of the blocks alone.
+//! The library's work in safe Rust: encoding, with a block XOR of the caller's choice, and the bodies of a
+//! box. Which blocks go where is worked out beforehand, so that a rival's time is that of the blocks alone.
 
 /// The families that are timed, with their numbers.
 #[derive(Clone, Copy)]
 pub enum Family {
     Simplex = 1,
     WeightTwo = 2,
+}
+
+impl Family {
+    /// How a table names a code with this L.
+    pub fn name(self, k: usize, len: usize) -> String {
+        let family = match self {
+            Family::Simplex => "simplex",
+            Family::WeightTwo => "weight-two",
+        };
+        format!("{family:<10} k {k:<2} L {len}")
+    }
 }
 
 /// The columns of nodes 1 to n, in this order.
@@ -73,6 +84,21 @@ pub fn encode(
             Step::Copy(number) => dst.copy_from_slice(block(object, len, number)),
             Step::Xor(low, high) => xor(dst, block(before, len, low), block(before, len, high)),
         }
+    }
+}
+
+/// Copies each body to its node's place.
+pub fn read_bodies(list: &[u8], len: usize, bodies: &[u8], nodes: &mut [u8]) {
+    for (&node, body) in list.iter().zip(bodies.chunks_exact(len)) {
+        let end = usize::from(node) * len;
+        nodes[end - len..end].copy_from_slice(body);
+    }
+}
+
+/// Copies each body from its node's place.
+pub fn write_bodies(list: &[u8], len: usize, nodes: &[u8], bodies: &mut [u8]) {
+    for (&node, body) in list.iter().zip(bodies.chunks_exact_mut(len)) {
+        body.copy_from_slice(block(nodes, len, node.into()));
     }
 }
 

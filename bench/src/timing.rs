@@ -2,7 +2,10 @@
 use std::hint::black_box;
 use std::time::Instant;
 
-/// Fills a nodes buffer from an object.
+/// Repetitions of each way.
+pub const ROUNDS: usize = 2001;
+
+/// Fills a buffer from another.
 pub type Way<'a> = &'a dyn Fn(&[u8], &mut [u8]);
 
 /// A buffer that starts at a multiple of 64.
@@ -37,14 +40,33 @@ impl Aligned {
 // Runs behind one reading of the clock.
 const RUNS: u32 = 4;
 
-/// The microseconds of a run, by way, in rising order. The ways take turns, and each round begins with
-/// another, so that what slows the machine down slows all of them.
-pub fn measure(rounds: usize, ways: &[Way], object: &[u8], nodes: &mut [u8]) -> Vec<Vec<f64>> {
-    let mut times = vec![Vec::with_capacity(rounds); ways.len()];
-    for round in 0..rounds {
+/// The microseconds of a run, by way and in rising order, once each way gave the expected bytes from a place
+/// on.
+pub fn compare_and_measure(
+    ways: &[Way],
+    source: &[u8],
+    filled: &mut Aligned,
+    expected: &[u8],
+    from: usize,
+) -> Vec<Vec<f64>> {
+    let filled = filled.bytes_mut();
+    for (i, way) in ways.iter().enumerate() {
+        filled.fill(0xa5);
+        way(source, filled);
+        let same = filled[from..] == expected[from..];
+        assert!(same, "way {} gives other bytes", i + 1);
+    }
+    measure(ways, source, filled)
+}
+
+/// The ways take turns, and each round begins with another, so that what slows the machine down slows all of
+/// them.
+fn measure(ways: &[Way], source: &[u8], filled: &mut [u8]) -> Vec<Vec<f64>> {
+    let mut times = vec![Vec::with_capacity(ROUNDS); ways.len()];
+    for round in 0..ROUNDS {
         for turn in 0..ways.len() {
             let i = (round + turn) % ways.len();
-            times[i].push(time(ways[i], object, nodes));
+            times[i].push(time(ways[i], source, filled));
         }
     }
     for of_way in &mut times {
@@ -53,12 +75,12 @@ pub fn measure(rounds: usize, ways: &[Way], object: &[u8], nodes: &mut [u8]) -> 
     times
 }
 
-fn time(way: Way, object: &[u8], nodes: &mut [u8]) -> f64 {
+fn time(way: Way, source: &[u8], filled: &mut [u8]) -> f64 {
     // once without the clock, so that the caches hold what this way needs
-    way(black_box(object), nodes);
+    way(black_box(source), filled);
     let start = Instant::now();
     for _ in 0..RUNS {
-        way(black_box(object), black_box(nodes));
+        way(black_box(source), black_box(filled));
     }
     start.elapsed().as_secs_f64() * 1e6 / f64::from(RUNS)
 }

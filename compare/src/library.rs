@@ -1,4 +1,62 @@
 //! The exports of the static library in safe Rust; the only unsafe code here.
+use std::fmt;
+
+/// How many marks a session holds, by node number.
+pub const MARKS: usize = 256;
+
+/// A session, by value: 1 marks a live node and 0 a missing one, and a caller may hand in anything.
+#[repr(C)]
+#[derive(Clone, Copy, PartialEq, Eq)]
+pub struct Session {
+    pub family: usize,
+    pub k: usize,
+    pub len: usize,
+    pub live: [u8; MARKS],
+}
+
+/// What a start or a box gives.
+#[repr(C)]
+#[derive(Clone, Copy, Debug, PartialEq, Eq)]
+pub struct Started {
+    pub refusal: u8,
+    pub session: Session,
+}
+
+/// What writing a box gives, with the box's length.
+#[repr(C)]
+#[derive(Clone, Copy, Debug, PartialEq, Eq)]
+pub struct Written {
+    pub refusal: u8,
+    pub length: usize,
+    pub session: Session,
+}
+
+/// What reading out gives, with the data block that goes with 14.
+#[repr(C)]
+#[derive(Clone, Copy, Debug, PartialEq, Eq)]
+pub struct ReadOut {
+    pub refusal: u8,
+    pub block: usize,
+    pub session: Session,
+}
+
+/// A part of a box: `length` bytes from place `from` on.
+#[repr(C)]
+#[derive(Clone, Copy, Debug, PartialEq, Eq)]
+pub struct Part {
+    pub refusal: u8,
+    pub from: usize,
+    pub length: usize,
+}
+
+/// The marks that are not 0 alone, as most are.
+impl fmt::Debug for Session {
+    fn fmt(&self, f: &mut fmt::Formatter) -> fmt::Result {
+        write!(f, "family {} k {} L {} ", self.family, self.k, self.len)?;
+        let marked = self.live.iter().enumerate().filter(|(_, mark)| **mark != 0);
+        f.debug_map().entries(marked).finish()
+    }
+}
 
 unsafe extern "C" {
     fn mogtriz_encode(
@@ -14,10 +72,44 @@ unsafe extern "C" {
     safe fn mogtriz_column(family: usize, k: usize, node: usize) -> usize;
     safe fn mogtriz_node_of_column(family: usize, k: usize, column: usize) -> usize;
     safe fn mogtriz_related(family: usize, k: usize, a: usize, b: usize, c: usize) -> u8;
+    fn mogtriz_start(
+        family: usize,
+        k: usize,
+        len: usize,
+        list: *const u8,
+        list_len: usize,
+    ) -> Started;
+    fn mogtriz_check(bytes: *const u8, bytes_len: usize) -> Started;
+    fn mogtriz_read(
+        bytes: *const u8,
+        bytes_len: usize,
+        nodes: *mut u8,
+        nodes_len: usize,
+    ) -> Started;
+    fn mogtriz_body(bytes: *const u8, bytes_len: usize, node: usize) -> Part;
+    fn mogtriz_write(
+        session: Session,
+        nodes: *const u8,
+        nodes_len: usize,
+        list: *const u8,
+        list_len: usize,
+        out: *mut u8,
+        out_len: usize,
+    ) -> Written;
+    fn mogtriz_read_out(
+        session: Session,
+        nodes: *const u8,
+        nodes_len: usize,
+        object: *mut u8,
+        object_len: usize,
+    ) -> ReadOut;
 }
 
+// SAFETY, for every call below: each pointer comes with its slice's length, and a slice borrowed as mutable
+// overlaps no other.
+
 pub fn encode(family: usize, k: usize, len: usize, object: &[u8], nodes: &mut [u8]) -> u8 {
-    // SAFETY: each pointer comes with its slice's length, and a slice borrowed as mutable overlaps no other.
+    // SAFETY: as above.
     unsafe {
         mogtriz_encode(
             family,
@@ -46,4 +138,52 @@ pub fn node_of_column(family: usize, k: usize, column: usize) -> usize {
 pub fn related(family: usize, k: usize, nodes: [usize; 3]) -> u8 {
     let [a, b, c] = nodes;
     mogtriz_related(family, k, a, b, c)
+}
+
+pub fn start(family: usize, k: usize, len: usize, list: &[u8]) -> Started {
+    // SAFETY: as above.
+    unsafe { mogtriz_start(family, k, len, list.as_ptr(), list.len()) }
+}
+
+pub fn check(bytes: &[u8]) -> Started {
+    // SAFETY: as above.
+    unsafe { mogtriz_check(bytes.as_ptr(), bytes.len()) }
+}
+
+pub fn read(bytes: &[u8], nodes: &mut [u8]) -> Started {
+    // SAFETY: as above.
+    unsafe { mogtriz_read(bytes.as_ptr(), bytes.len(), nodes.as_mut_ptr(), nodes.len()) }
+}
+
+pub fn body(bytes: &[u8], node: usize) -> Part {
+    // SAFETY: as above.
+    unsafe { mogtriz_body(bytes.as_ptr(), bytes.len(), node) }
+}
+
+pub fn write(session: Session, nodes: &[u8], list: &[u8], out: &mut [u8]) -> Written {
+    // SAFETY: as above.
+    unsafe {
+        mogtriz_write(
+            session,
+            nodes.as_ptr(),
+            nodes.len(),
+            list.as_ptr(),
+            list.len(),
+            out.as_mut_ptr(),
+            out.len(),
+        )
+    }
+}
+
+pub fn read_out(session: Session, nodes: &[u8], object: &mut [u8]) -> ReadOut {
+    // SAFETY: as above.
+    unsafe {
+        mogtriz_read_out(
+            session,
+            nodes.as_ptr(),
+            nodes.len(),
+            object.as_mut_ptr(),
+            object.len(),
+        )
+    }
 }

@@ -104,6 +104,13 @@ impl Code {
         (1..=self.n()).map(|node| self.column(node)).collect()
     }
 
+    /// The node that holds a data block alone: its column has that one bit.
+    pub fn data_node(&self, block: usize) -> u8 {
+        let alone = |node: &u8| self.column(usize::from(*node)) == 1 << (block - 1);
+        let node = (1..=255).find(alone);
+        node.expect("each data block has its node")
+    }
+
     /// The object times the matrix: each node's block is the XOR of the data blocks with a 1 in its column.
     pub fn multiply(&self, len: usize, object: &[u8]) -> Vec<u8> {
         let mut nodes = vec![0; self.n() * len];
@@ -140,21 +147,24 @@ pub struct Call {
     pub nodes_len: usize,
 }
 
+/// n, or the number of the first of 1, 2 and 3 that is met.
+pub fn checked_node_count(family: usize, k: usize, len: usize) -> Result<usize, u8> {
+    let range = range_of_k(family).ok_or(1)?;
+    if !range.contains(&k) {
+        return Err(2);
+    }
+    if len == 0 || len > MOST_LENGTH {
+        return Err(3);
+    }
+    Ok(node_count(family, k))
+}
+
 /// Encode's answer: the checks are made in the order 1, 2, 3, 6, and 0 is for a call that meets none.
 pub fn encode_answer(call: Call) -> u8 {
-    let Some(range) = range_of_k(call.family) else {
-        return 1;
-    };
-    if !range.contains(&call.k) {
-        return 2;
+    let exact = |n| call.object_len == call.k * call.len && call.nodes_len == n * call.len;
+    match checked_node_count(call.family, call.k, call.len) {
+        Err(refusal) => refusal,
+        Ok(n) if exact(n) => 0,
+        Ok(_) => 6,
     }
-    if call.len == 0 || call.len > MOST_LENGTH {
-        return 3;
-    }
-    let object_len = call.k * call.len;
-    let nodes_len = node_count(call.family, call.k) * call.len;
-    if call.object_len != object_len || call.nodes_len != nodes_len {
-        return 6;
-    }
-    0
 }

@@ -26,6 +26,22 @@ impl Random {
         (self.number() % end as u64) as usize
     }
 
+    /// A number of any width up to 64 bits.
+    pub fn wide(&mut self) -> usize {
+        let width = self.below(64);
+        (self.number() >> width) as usize
+    }
+
+    /// One of these.
+    pub fn of<'a, T>(&mut self, choices: &'a [T]) -> &'a T {
+        &choices[self.below(choices.len())]
+    }
+
+    /// Another generator, for use beside this one.
+    pub fn beside(&mut self) -> Random {
+        Random(u64::max(self.number(), 1))
+    }
+
     pub fn bytes(&mut self, count: usize) -> Vec<u8> {
         (0..count).map(|_| (self.number() >> 32) as u8).collect()
     }

@@ -1,0 +1,100 @@
+//! Reading and writing a box of every node, timed against copying the same bodies one by one in Rust.
+use crate::rivals::{self, Family};
+use crate::table::{Line, Table};
+use crate::timing::{Aligned, Way, compare_and_measure};
+use compare::boxes::HEAD;
+use compare::library;
+use compare::random::Random;
+use compare::samples::Shape;
+
+const WAYS: [&str; 2] = ["Mogtriz", "Rust"];
+
+/// The most that the library may take of the time of the copies.
+const GOAL: f64 = 1.4;
+
+/// A code at the L with which a box of every node is just under 64 KiB.
+const CASES: [(Family, usize, usize); 2] =
+    [(Family::Simplex, 8, 255), (Family::WeightTwo, 22, 256)];
+
+/// A box of every node, the numbers of its nodes, and the nodes buffer that it is read into.
+struct Full {
+    shape: Shape,
+    list: Vec<u8>,
+    bytes: Aligned,
+    nodes: Aligned,
+}
+
+impl Full {
+    fn new(family: Family, k: usize, len: usize, random: &mut Random) -> Full {
+        let family = family as usize;
+        let shape = Shape { family, k, len };
+        let list = shape.all_nodes();
+        let bytes = shape.box_of(&list, random);
+        Full {
+            shape,
+            nodes: Aligned::holding(&bytes[HEAD + list.len()..]),
+            list,
+            bytes: Aligned::holding(&bytes),
+        }
+    }
+
+    fn bodies_from(&self) -> usize {
+        HEAD + self.list.len()
+    }
+
+    fn read(&self) -> Vec<Vec<f64>> {
+        let mogtriz = |bytes: &[u8], nodes: &mut [u8]| {
+            assert_eq!(library::read(bytes, nodes).refusal, 0);
+        };
+        let rust = |bytes: &[u8], nodes: &mut [u8]| {
+            let bodies = &bytes[self.bodies_from()..];
+            rivals::read_bodies(&self.list, self.shape.len, bodies, nodes);
+        };
+        let ways: [Way; 2] = [&mogtriz, &rust];
+        let mut nodes = Aligned::zeros(self.shape.nodes_len());
+        compare_and_measure(&ways, self.bytes.bytes(), &mut nodes, self.nodes.bytes(), 0)
+    }
+
+    fn write(&self) -> Vec<Vec<f64>> {
+        let session = self.shape.session(&self.list);
+        let mogtriz = |nodes: &[u8], out: &mut [u8]| {
+            let written = library::write(session, nodes, &[], out);
+            assert_eq!((written.refusal, written.length), (0, out.len()));
+        };
+        let rust = |nodes: &[u8], out: &mut [u8]| {
+            let bodies = &mut out[self.bodies_from()..];
+            rivals::write_bodies(&self.list, self.shape.len, nodes, bodies);
+        };
+        let ways: [Way; 2] = [&mogtriz, &rust];
+        let mut out = Aligned::zeros(self.bytes.bytes().len());
+        // the copies leave out what stands before the bodies
+        let from = self.bodies_from();
+        compare_and_measure(
+            &ways,
+            self.nodes.bytes(),
+            &mut out,
+            self.bytes.bytes(),
+            from,
+        )
+    }
+}
+
+fn table(title: &'static str, random: &mut Random, time: fn(&Full) -> Vec<Vec<f64>>) -> Table {
+    let line = |(family, k, len): (Family, usize, usize)| Line {
+        name: family.name(k, len),
+        goals: vec![Some(GOAL)],
+        times: time(&Full::new(family, k, len, random)),
+    };
+    Table {
+        title,
+        ways: &WAYS,
+        lines: CASES.map(line).into(),
+    }
+}
+
+pub fn tables(random: &mut Random) -> [Table; 2] {
+    [
+        table("read a box", random, Full::read),
+        table("write a box", random, Full::write),
+    ]
+}

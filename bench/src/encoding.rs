@@ -1,0 +1,75 @@
+//! Encoding, timed against the same algorithm in Rust, the same with ISA-L's block XOR, and a copy of as
+//! many bytes.
+use crate::isal;
+use crate::rivals::{self, Family};
+use crate::table::{Line, Table};
+use crate::timing::{Aligned, Way, compare_and_measure};
+use compare::random::Random;
+use compare::{library, papers};
+
+const WAYS: [&str; 4] = ["Mogtriz", "Rust", "ISA-L", "memcpy"];
+
+struct Case {
+    family: Family,
+    k: usize,
+    len: usize,
+    goals: [Option<f64>; 3],
+}
+
+fn simplex(len: usize) -> Case {
+    Case {
+        family: Family::Simplex,
+        k: 8,
+        len,
+        goals: [Some(1.1), Some(1.0), Some(1.6)],
+    }
+}
+
+fn weight_two(len: usize) -> Case {
+    Case {
+        family: Family::WeightTwo,
+        k: 22,
+        len,
+        goals: [Some(1.1), None, None],
+    }
+}
+
+fn run(case: Case, random: &mut Random) -> Line {
+    let Case { family, k, len, .. } = case;
+    let number = family as usize;
+    let object = Aligned::holding(&random.bytes(k * len));
+    let expected = Aligned::holding(&papers::code(number, k).multiply(len, object.bytes()));
+    let mut nodes = Aligned::zeros(expected.bytes().len());
+    let steps = rivals::steps(family, k);
+    let mogtriz = |object: &[u8], nodes: &mut [u8]| {
+        assert_eq!(library::encode(number, k, len, object, nodes), 0);
+    };
+    let rust = |object: &[u8], nodes: &mut [u8]| {
+        rivals::encode(&steps, len, object, nodes, rivals::xor);
+    };
+    let isal = |object: &[u8], nodes: &mut [u8]| {
+        rivals::encode(&steps, len, object, nodes, isal::xor);
+        isal::clear_registers();
+    };
+    let memcpy = |_: &[u8], nodes: &mut [u8]| nodes.copy_from_slice(expected.bytes());
+    let ways: [Way; 4] = [&mogtriz, &rust, &isal, &memcpy];
+    Line {
+        name: family.name(k, len),
+        goals: case.goals.to_vec(),
+        times: compare_and_measure(&ways, object.bytes(), &mut nodes, expected.bytes(), 0),
+    }
+}
+
+pub fn table(random: &mut Random) -> Table {
+    let cases = [
+        simplex(1536),
+        simplex(4096),
+        weight_two(1536),
+        weight_two(4096),
+    ];
+    Table {
+        title: "encode",
+        ways: &WAYS,
+        lines: cases.map(|case| run(case, random)).into(),
+    }
+}

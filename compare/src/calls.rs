@@ -1,0 +1,100 @@
+//! One call made of the library and of the papers' model: what it gives and every byte lent have to agree.
+//! Each function gives the call's number.
+use crate::boxes;
+use crate::guarded::Guarded;
+use crate::library::{self, Session};
+
+/// The bytes of a message, cut where they would fill the screen.
+fn shown(bytes: &[u8]) -> String {
+    let first = &bytes[..bytes.len().min(48)];
+    format!("{} bytes {first:02x?}", bytes.len())
+}
+
+/// A destination after a call: its bytes as the model left them, its guards as they were.
+fn written_as(lent: &Guarded, wanted: &[u8]) -> bool {
+    lent.bytes() == wanted && lent.guards_untouched()
+}
+
+pub fn start(family: usize, k: usize, len: usize, list: &[u8]) -> u8 {
+    let lent = Guarded::holding(list);
+    let got = library::start(family, k, len, lent.bytes());
+    let wanted = boxes::start(family, k, len, list);
+    let place = || format!("start family {family} k {k} L {len} list {}", shown(list));
+    assert_eq!(got, wanted, "{}", place());
+    assert!(lent.untouched(), "{}: the list was written to", place());
+    wanted.refusal
+}
+
+pub fn check(bytes: &[u8]) -> u8 {
+    let lent = Guarded::holding(bytes);
+    let got = library::check(lent.bytes());
+    let wanted = boxes::check(bytes);
+    let place = || format!("check {}", shown(bytes));
+    assert_eq!(got, wanted, "{}", place());
+    assert!(lent.untouched(), "{}: the box was written to", place());
+    wanted.refusal
+}
+
+pub fn read(bytes: &[u8], nodes_len: usize) -> u8 {
+    let lent = Guarded::holding(bytes);
+    let mut nodes = Guarded::filled(nodes_len);
+    let mut expected = nodes.bytes().to_vec();
+    let got = library::read(lent.bytes(), nodes.bytes_mut());
+    let wanted = boxes::read(bytes, &mut expected);
+    let place = || format!("read {} into {nodes_len}", shown(bytes));
+    assert_eq!(got, wanted, "{}", place());
+    let as_wanted = written_as(&nodes, &expected);
+    assert!(as_wanted, "{}: the nodes differ", place());
+    assert!(lent.untouched(), "{}: the box was written to", place());
+    wanted.refusal
+}
+
+pub fn body(bytes: &[u8], node: usize) -> u8 {
+    let lent = Guarded::holding(bytes);
+    let got = library::body(lent.bytes(), node);
+    let wanted = boxes::body(bytes, node);
+    let place = || format!("body {node} of {}", shown(bytes));
+    assert_eq!(got, wanted, "{}", place());
+    assert!(lent.untouched(), "{}: the box was written to", place());
+    wanted.refusal
+}
+
+pub fn write(session: Session, nodes: &[u8], list: &[u8], out_len: usize) -> u8 {
+    let [lent_nodes, lent_list] = [nodes, list].map(Guarded::holding);
+    let mut out = Guarded::filled(out_len);
+    let mut expected = out.bytes().to_vec();
+    let got = library::write(
+        session,
+        lent_nodes.bytes(),
+        lent_list.bytes(),
+        out.bytes_mut(),
+    );
+    let wanted = boxes::write(session, nodes, list, &mut expected);
+    let place = || {
+        let (nodes, list) = (nodes.len(), shown(list));
+        format!("write {session:?} nodes {nodes} list {list} into {out_len}")
+    };
+    assert_eq!(got, wanted, "{}", place());
+    let as_wanted = written_as(&out, &expected);
+    assert!(as_wanted, "{}: the box differs", place());
+    let kept = lent_nodes.untouched() && lent_list.untouched();
+    assert!(kept, "{}: the nodes or the list were written to", place());
+    wanted.refusal
+}
+
+pub fn read_out(session: Session, nodes: &[u8], object_len: usize) -> u8 {
+    let lent = Guarded::holding(nodes);
+    let mut object = Guarded::filled(object_len);
+    let mut expected = object.bytes().to_vec();
+    let got = library::read_out(session, lent.bytes(), object.bytes_mut());
+    let wanted = boxes::read_out(session, nodes, &mut expected);
+    let place = || {
+        let nodes = nodes.len();
+        format!("read out {session:?} nodes {nodes} into {object_len}")
+    };
+    assert_eq!(got, wanted, "{}", place());
+    let as_wanted = written_as(&object, &expected);
+    assert!(as_wanted, "{}: the object differs", place());
+    assert!(lent.untouched(), "{}: the nodes were written to", place());
+    wanted.refusal
+}

@@ -1,0 +1,262 @@
+//! Starting, writing a box and reading out, against the papers' model, over sessions, lists and buffers of
+//! every content and length.
+use compare::boxes::{self, box_len, live_nodes};
+use compare::calls;
+use compare::library::{MARKS, Session};
+use compare::papers::code;
+use compare::random::Random;
+use compare::samples::{
+    Shape, THREE_NODES, length_near, long_list, shapes, short_lists, some_of, spoiled,
+    spoiled_session, wrong_len, wrong_length, wrong_number,
+};
+use compare::tally::Tally;
+
+/// Makes a kind's calls a number of times for each shape.
+fn repeat(tally: &mut Tally, kind: &'static str, times: usize, mut call: impl FnMut(Shape) -> u8) {
+    tally.begin(kind);
+    for shape in shapes() {
+        for _ in 0..times {
+            tally.add(call(shape));
+        }
+    }
+}
+
+/// Some of the nodes, with a fault or two in most lists.
+fn any_list(shape: Shape, random: &mut Random) -> Vec<u8> {
+    let list = some_of(&shape.all_nodes(), random);
+    match random.below(40) {
+        0 => long_list(shape.n(), random),
+        1..10 => list,
+        _ => spoiled(&list, random),
+    }
+}
+
+#[test]
+fn sessions_start_as_the_papers_say() {
+    let mut random = Random::seeded();
+    let mut tally = Tally::of("start");
+    let start = |shape: Shape, list: &[u8]| calls::start(shape.family, shape.k, shape.len, list);
+    repeat(&mut tally, "sound", 500, |shape| {
+        start(shape, &some_of(&shape.all_nodes(), &mut random))
+    });
+    repeat(&mut tally, "node lists", 1500, |shape| {
+        start(shape, &any_list(shape, &mut random))
+    });
+    repeat(&mut tally, "long lists", 100, |shape| {
+        start(shape, &long_list(shape.n(), &mut random))
+    });
+    repeat(&mut tally, "numbers", 2500, |shape| {
+        let list = any_list(shape, &mut random);
+        start(with_wrong_numbers(shape, &mut random), &list)
+    });
+    tally.begin("short lists");
+    for list in short_lists() {
+        for shape in THREE_NODES {
+            tally.add(start(shape, &list));
+        }
+    }
+    tally.report(&[0, 1, 2, 3, 4, 5], 150_000);
+}
+
+/// One to three of the numbers out of range, or at another place in it.
+fn with_wrong_numbers(shape: Shape, random: &mut Random) -> Shape {
+    let mut wrong = shape;
+    for _ in 0..1 + random.below(3) {
+        match random.below(3) {
+            0 => wrong.family = wrong_number(shape.family, random),
+            1 => wrong.k = wrong_number(shape.k, random),
+            _ => wrong.len = wrong_len(shape.len, random),
+        }
+    }
+    wrong
+}
+
+/// Bytes for a nodes buffer, those of a longer one for all calls.
+struct Nodes(Vec<u8>);
+
+impl Nodes {
+    fn new(random: &mut Random) -> Nodes {
+        Nodes(random.bytes(200_000))
+    }
+
+    /// So many of the bytes, from anywhere, as nothing has to be aligned.
+    fn some(&self, length: usize, random: &mut Random) -> &[u8] {
+        let from = random.below(self.0.len() - length);
+        &self.0[from..from + length]
+    }
+}
+
+/// A session that a start gives.
+fn sound_session(shape: Shape, random: &mut Random) -> Session {
+    shape.session(&some_of(&shape.all_nodes(), random))
+}
+
+/// A list for writing: none, all or some of the live nodes, perhaps with a missing one, perhaps faulty.
+fn list_to_write(shape: Shape, session: &Session, random: &mut Random) -> Vec<u8> {
+    let live = live_nodes(session);
+    match random.below(8) {
+        0 | 1 => vec![],
+        2 => live,
+        3 | 4 => some_of(&live, random),
+        5 => with_another(some_of(&live, random), shape, random),
+        6 => spoiled(&live, random),
+        _ => any_list(shape, random),
+    }
+}
+
+/// One more node in its place, live or missing.
+fn with_another(mut list: Vec<u8>, shape: Shape, random: &mut Random) -> Vec<u8> {
+    let node = 1 + random.below(shape.n()) as u8;
+    if let Err(place) = list.binary_search(&node) {
+        list.insert(place, node);
+    }
+    list
+}
+
+/// Room for a box of the list, or of every live node: enough, one short, or another length.
+fn room_for(session: &Session, shape: Shape, list: &[u8], random: &mut Random) -> usize {
+    let held = match list.len() {
+        0 => live_nodes(session).len(),
+        count => count.min(shape.n()),
+    };
+    let exact = box_len(held, shape.len);
+    let short = random.below(exact);
+    let long = exact + random.below(100);
+    *random.of(&[exact, exact, long, long, exact + 1, exact - 1, short])
+}
+
+#[test]
+fn boxes_are_written_as_the_papers_say() {
+    let mut random = Random::seeded();
+    let mut tally = Tally::of("write");
+    let nodes = Nodes::new(&mut random);
+    let write = |shape: Shape, session: Session, nodes_len: usize, random: &mut Random| {
+        let list = list_to_write(shape, &session, random);
+        let room = room_for(&session, shape, &list, random);
+        calls::write(session, nodes.some(nodes_len, random), &list, room)
+    };
+    repeat(&mut tally, "sound", 4000, |shape| {
+        let session = sound_session(shape, &mut random);
+        write(shape, session, shape.nodes_len(), &mut random)
+    });
+    repeat(&mut tally, "nodes buffers", 500, |shape| {
+        let session = sound_session(shape, &mut random);
+        let length = wrong_length(shape.nodes_len(), &mut random);
+        write(shape, session, length, &mut random)
+    });
+    repeat(&mut tally, "sessions", 2500, |shape| {
+        let session = any_session(shape, &mut random);
+        let length = length_near(shape.nodes_len(), &mut random);
+        write(shape, session, length, &mut random)
+    });
+    tally.begin("each mark");
+    for (shape, session) in sessions_with_each_mark(&mut random) {
+        tally.add(write(shape, session, shape.nodes_len(), &mut random));
+    }
+    tally.begin("short lists");
+    write_every_short_list(&mut tally, &mut random);
+    tally.report(&[0, 4, 5, 6, 12, 13], 300_000);
+}
+
+/// In codes of three nodes, every set of live nodes and every list of up to three, into room from none to
+/// more than enough.
+fn write_every_short_list(tally: &mut Tally, random: &mut Random) {
+    let mut lists = short_lists();
+    lists.retain(|list| list.len() <= 3);
+    for shape in THREE_NODES {
+        let nodes = random.bytes(shape.nodes_len());
+        let starts =
+            |live: &&Vec<u8>| boxes::start(shape.family, shape.k, shape.len, live).refusal == 0;
+        for live in lists.iter().filter(starts) {
+            for list in &lists {
+                for room in 0..=box_len(3, shape.len) + 1 {
+                    tally.add(calls::write(shape.session(live), &nodes, list, room));
+                }
+            }
+        }
+    }
+}
+
+/// A start's sessions, in which each mark in turn is made live, missing or no mark.
+fn sessions_with_each_mark(random: &mut Random) -> Vec<(Shape, Session)> {
+    let mut sessions = Vec::new();
+    for shape in shapes().into_iter().filter(|shape| shape.len <= 2) {
+        let sound = session_to_read_out(shape, random);
+        for place in 0..MARKS {
+            for mark in [0, 1, 2, 3, 128, 254, 255] {
+                let mut session = sound;
+                session.live[place] = mark;
+                sessions.push((shape, session));
+            }
+        }
+    }
+    sessions
+}
+
+/// A session of any content: one that a start gives with something changed, or nothing but random numbers.
+fn any_session(shape: Shape, random: &mut Random) -> Session {
+    if random.below(10) > 0 {
+        return spoiled_session(sound_session(shape, random), shape.n(), random);
+    }
+    let mut live = [0; MARKS];
+    live.copy_from_slice(&random.bytes(MARKS));
+    let [family, k, len] = [(); 3].map(|()| random.wide());
+    Session {
+        family,
+        k,
+        len,
+        live,
+    }
+}
+
+/// A start's session, in which all or all but a few of the data blocks' nodes are live.
+fn session_to_read_out(shape: Shape, random: &mut Random) -> Session {
+    let mut session = sound_session(shape, random);
+    let code = code(shape.family, shape.k);
+    let missing = random.below(2 * shape.k.min(8));
+    for block in 1..=shape.k {
+        let lost = random.below(2 * shape.k) < missing;
+        session.live[usize::from(code.data_node(block))] = u8::from(!lost);
+    }
+    session
+}
+
+#[test]
+fn objects_are_read_out_as_the_papers_say() {
+    let mut random = Random::seeded();
+    let mut tally = Tally::of("read out");
+    let nodes = Nodes::new(&mut random);
+    let exact = |shape: Shape| (shape.nodes_len(), shape.object_len());
+    let read_out = |session: Session, lengths: (usize, usize), random: &mut Random| {
+        calls::read_out(session, nodes.some(lengths.0, random), lengths.1)
+    };
+    repeat(&mut tally, "sound", 2000, |shape| {
+        let session = session_to_read_out(shape, &mut random);
+        read_out(session, exact(shape), &mut random)
+    });
+    repeat(&mut tally, "buffers", 1000, |shape| {
+        let session = session_to_read_out(shape, &mut random);
+        let (nodes, object) = exact(shape);
+        let lengths = [nodes, object].map(|exact| length_near(exact, &mut random));
+        read_out(session, lengths.into(), &mut random)
+    });
+    repeat(&mut tally, "sessions", 1000, |shape| {
+        let sound = session_to_read_out(shape, &mut random);
+        let session = spoiled_session(sound, shape.n(), &mut random);
+        let (nodes, object) = exact(shape);
+        read_out(
+            session,
+            (nodes, length_near(object, &mut random)),
+            &mut random,
+        )
+    });
+    repeat(&mut tally, "random sessions", 500, |shape| {
+        let session = any_session(shape, &mut random);
+        read_out(session, exact(shape), &mut random)
+    });
+    tally.begin("each mark");
+    for (shape, session) in sessions_with_each_mark(&mut random) {
+        tally.add(read_out(session, exact(shape), &mut random));
+    }
+    tally.report(&[0, 6, 13, 14], 150_000);
+}
