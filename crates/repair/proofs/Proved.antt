@@ -1,10 +1,13 @@
 -- The claims of specs/Claims.antt.
 -- Assumes nothing.
 use mathlib.Core.Path.{_≡_, refl, sym, ap, _∙_}
-use mathlib.Core.Bool.{Bool, false}
+use mathlib.Core.Bool.{Bool, true, false}
 use mathlib.Core.List.{List}
-use Prim.Native.Nat.{ℕ}
-use borrow.Author.Tests.{eqb-true, not-false}
+use Prim.Native.Nat.{ℕ, _≤_}
+use native.Mathlib.Nat.{mul-le-mul-right}
+use native.Mathlib.Omega.{arith}
+use borrow.Author.Tests.{eqb-true, not-false, ltb-true, ltb-false}
+use lib.Dec.{ltb}
 use Rattle.families.specs.Families.{familyOf, nodeCount}
 use Rattle.families.proofs.Laws.{few}
 use Rattle.checks.specs.Checks.{firstMet}
@@ -13,13 +16,15 @@ use Rattle.checks.proofs.Laws.{InRange, accepted, range-of}
 use Rattle.encoding.specs.Matrix.{nodesBuffer}
 use Rattle.lists.specs.Lists.{someOutside, liveNodes, liveOutside}
 use Rattle.lists.proofs.Laws.{live-of-list, marks-of-live-nodes, list-outside-none, outside-more}
+use Rattle.boxes.specs.Box.{lengthIn, heldIn, boxLength}
+use Rattle.boxes.proofs.Answers.{by-length}
 use Rattle.boxes.proofs.Laws.{accepted-box, parameters-in}
 use Rattle.readout.proofs.Laws.{blocks-of-encoded}
 use Rattle.repair.specs.declared.Session.{Session}
 use Rattle.repair.specs.Session.{sessionOf, startChecks, nodesOf, noStart, nodesChecks}
 use Rattle.repair.specs.Boxed.{nodesRead, listed}
 use Rattle.repair.specs.ReadOut.{missingIn, readOutChecks}
-use Rattle.repair.specs.Claims.{FromStart, NoStartClaim, StartMarksClaim, boxWritten, WriteReadClaim, ReadWriteClaim, RoundTripClaim, BoxClaim}
+use Rattle.repair.specs.Claims.{FromStart, NoStartClaim, StartMarksClaim, boxWritten, WriteReadClaim, ReadWriteClaim, RoundTripClaim, BoxClaim, WrongCountClaim}
 use Rattle.repair.proofs.StartLaws.{known, start-0, no-start-marks}
 use Rattle.repair.proofs.ReadOutLaws.{read}
 use Rattle.repair.proofs.RoundTripLaws.{live-good, accepted-write, box-checked, box-reads, bodies-read, again-all, again-named}
@@ -92,3 +97,14 @@ round-trip-claim s object list out other result size e h o =
 
 pub box-claim : BoxClaim
 box-claim bytes e = let a = accepted-box bytes e in record { names = a .names-size; bodies = a .bodies-size }
+
+-- two numbers of nodes have two lengths
+one-count : (L m E : ℕ) → boxLength m L ≡ boxLength E L → m ≡ E
+one-count L m E e = either (ltb m E) refl
+  where
+    either : (less : Bool) → ltb m E ≡ less → m ≡ E
+    either true h = let l = ltb-true m E h in let g : m ≤ E = omega (arith, l) in omega (arith, l, mul-le-mul-right L g)
+    either false h = let l = ltb-false m E h in omega (arith, l, mul-le-mul-right L l)
+
+pub wrong-count-claim : WrongCountClaim
+wrong-count-claim bytes m long e z size other = by-length bytes long e z (λ s. other (one-count (lengthIn bytes) m (heldIn bytes) (sym size ∙ s)))

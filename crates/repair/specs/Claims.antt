@@ -1,6 +1,6 @@
 -- What is proved of sessions and boxes besides each operation's own equations; proofs/Proved.antt has the proofs.
 use mathlib.Core.Path.{_≡_}
-use mathlib.Core.Bool.{false}
+use mathlib.Core.Bool.{true, false}
 use mathlib.Core.List.{List, [], _∷_, _++_}
 use mathlib.Core.Logic.{_↔_}
 use Prim.Native.Nat.{ℕ, _*_, _≤_, _<_}
@@ -9,9 +9,10 @@ use lib.ListN.{length, getD, take, drop}
 use Rattle.families.specs.Families.{familyOf}
 use Rattle.blocks.specs.Blocks.{blockOf}
 use Rattle.checks.specs.Checks.{firstMet}
+use Rattle.checks.specs.Parameters.{parameterChecks}
 use Rattle.encoding.specs.Matrix.{nodesBuffer}
 use Rattle.lists.specs.Lists.{isLive, placeIn}
-use Rattle.boxes.specs.Box.{lengthIn, heldIn, namesIn, bodiesIn, boxChecks}
+use Rattle.boxes.specs.Box.{familyIn, kIn, lengthIn, heldIn, zerosIn, namesIn, bodiesIn, boxLength, boxChecks}
 use Rattle.repair.specs.declared.Session.{Session}
 use Rattle.repair.specs.Session.{sessionOf, startChecks, nodesOf, noStart}
 use Rattle.repair.specs.Boxed.{sessionIn, checkedBox, readChecks, nodesRead, listed, writtenLength, writeChecks, outWritten}
@@ -80,3 +81,8 @@ pub record BoxClaims (bytes : List ℕ) : Type 0 where
 
 abbrev pub BoxClaim : Type 0
 BoxClaim = (bytes : List ℕ) → firstMet (boxChecks bytes) ≡ 0 → BoxClaims bytes
+
+-- a page that counts E nodes with the length for another number of them gives 7, before any number or body is looked at
+abbrev pub WrongCountClaim : Type 0
+WrongCountClaim = (bytes : List ℕ) (m : ℕ) → 8 ≤ length bytes → firstMet (parameterChecks (familyIn bytes) (kIn bytes) (lengthIn bytes)) ≡ 0 → zerosIn bytes ≡ true
+    → length bytes ≡ boxLength m (lengthIn bytes) → (m ≡ heldIn bytes → ⊥) → firstMet (boxChecks bytes) ≡ 7
