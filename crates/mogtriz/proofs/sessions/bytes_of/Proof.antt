@@ -21,20 +21,8 @@ loop-holds : tie.Need-loop-holds Inv-loop μ-loop
 unfolding filledBy blank
 loop-holds c = (omega arith, refl)
 
-array-read-byte-of : tie.Need-array-read-byte-of Inv-loop μ-loop
-array-read-byte-of c = omega arith
-
 byte-of-requires : tie.Need-byte-of-requires Inv-loop μ-loop
 byte-of-requires c κs = tt
-
-array-write-bytes : tie.Need-array-write-bytes Inv-loop μ-loop
-array-write-bytes c = omega arith
-
-add-j : tie.Need-add-j Inv-loop μ-loop
-add-j c = omega arith
-
-loop-less : tie.Need-loop-less Inv-loop μ-loop
-loop-less c = omega arith
 
 loop-again : tie.Need-loop-again Inv-loop μ-loop
 loop-again c = let l = c .before .before .loop in (omega arith, rw (l .inv .1, c .byte-of .ensures) (filled-more byteOf (c .before .before .before .args .t1) (blank 0) (l .j) false (omega arith) (omega (arith, length-blank {B = ℕ} 0))))
@@ -52,10 +40,10 @@ bytes-of-spec =
     Inv-loop
     μ-loop
     loop-holds
-    array-read-byte-of
+    (λ c. omega arith)
     byte-of-requires
-    array-write-bytes
-    add-j
-    loop-less
+    (λ c. omega arith)
+    (λ c. omega arith)
+    (λ c. omega arith)
     loop-again
     returns)

@@ -21,18 +21,6 @@ loop-holds : tie.Need-loop-holds Inv-loop μ-loop
 unfolding filledBy blank
 loop-holds c = (omega arith, refl)
 
-array-read-marks : tie.Need-array-read-marks Inv-loop μ-loop
-array-read-marks c = omega arith
-
-array-write-marks : tie.Need-array-write-marks Inv-loop μ-loop
-array-write-marks c = omega arith
-
-add-j : tie.Need-add-j Inv-loop μ-loop
-add-j c = omega arith
-
-loop-less : tie.Need-loop-less Inv-loop μ-loop
-loop-less c = omega arith
-
 loop-again : tie.Need-loop-again Inv-loop μ-loop
 loop-again c = let l = c .before .loop in (omega arith, rw (l .inv .1) (filled-more markOf (c .before .before .args .t1) (blank false) (l .j) 0 (omega arith) (omega (arith, length-blank false))))
 
@@ -49,9 +37,9 @@ marks-of-spec =
     Inv-loop
     μ-loop
     loop-holds
-    array-read-marks
-    array-write-marks
-    add-j
-    loop-less
+    (λ c. omega arith)
+    (λ c. omega arith)
+    (λ c. omega arith)
+    (λ c. omega arith)
     loop-again
     returns)

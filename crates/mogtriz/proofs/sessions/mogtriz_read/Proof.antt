@@ -11,11 +11,8 @@ read-requires c κs = tt
 for-c-requires : tie.Need-for-c-requires
 for-c-requires c κs = tt
 
-same-length : tie.Need-same-length
-same-length c = search needs
-
 returns : tie.Need-returns
 returns c = let r = c .before .before .before .read .ensures in (rw (c .for-c .ensures, r .0), r .1)
 
 pub mogtriz-read-spec : {M : Type 1} → statement M
-mogtriz-read-spec = tie.close (tie.spec read-requires for-c-requires same-length returns)
+mogtriz-read-spec = tie.close (tie.spec read-requires for-c-requires (λ c. search needs) returns)

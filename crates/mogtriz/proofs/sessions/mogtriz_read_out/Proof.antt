@@ -20,9 +20,6 @@ session-requires c κs = tt
 read-out-requires : tie.Need-read-out-requires
 read-out-requires c κs = tt
 
-same-length : tie.Need-same-length
-same-length c = search needs
-
 returns-2 : tie.Need-returns-2
 unfolding readOutC objectOutC
 returns-2 c =
@@ -40,5 +37,5 @@ mogtriz-read-out-spec =
     returns
     session-requires
     read-out-requires
-    same-length
+    (λ c. search needs)
     returns-2)

@@ -20,9 +20,6 @@ session-requires c κs = tt
 write-requires : tie.Need-write-requires
 write-requires c κs = tt
 
-same-length : tie.Need-same-length
-same-length c = search needs
-
 returns-2 : tie.Need-returns-2
 unfolding writtenC outWrittenC
 returns-2 c =
@@ -40,5 +37,5 @@ mogtriz-write-spec =
     returns
     session-requires
     write-requires
-    same-length
+    (λ c. search needs)
     returns-2)
