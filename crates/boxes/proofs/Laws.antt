@@ -16,15 +16,15 @@ use Rattle.families.specs.Families.{familyOf, nodeCount, leastK, mostK}
 use Rattle.checks.specs.Checks.{firstMet}
 use Rattle.checks.specs.Parameters.{mostL, outside, parameterChecks}
 use Rattle.checks.proofs.Laws.{InRange, inside, outside-no, range-of}
-use Rattle.lists.specs.Lists.{someOutside, rises}
+use Rattle.lists.specs.Lists.{someOutside, rises, placeIn}
 use Rattle.blocks.specs.Blocks.{blockOf, withBlock, InBuffer}
 use Rattle.blocks.proofs.BlockLaws.{length-withBlock, blockOf-same, blockOf-other, in-buffer}
 use Rattle.blocks.proofs.PartLaws.{length-blockOf}
-use Rattle.boxes.specs.Box.{familyIn, kIn, lengthIn, heldIn, zerosIn, namesIn, bodiesIn, nodesIn, boxLength, boxChecks}
+use Rattle.boxes.specs.Box.{familyIn, kIn, lengthIn, heldIn, zerosIn, namesIn, bodiesIn, nodesIn, boxLength, boxChecks, bodyChecks, bodyStart}
 use Rattle.boxes.specs.Bodies.{bodiesOf, boxOf, withBodies}
 use Rattle.boxes.specs.Places.{ListIn}
 use Rattle.boxes.specs.Names.{nameChecks}
-use Rattle.boxes.proofs.Answers.{parametersOf, box-none, none-zero, length-names, by-names}
+use Rattle.boxes.proofs.Answers.{parametersOf, box-none, none-zero, length-names, by-names, accepted-body}
 
 -- ---- lists of nodes
 
@@ -174,6 +174,12 @@ accepted-box bytes e =
       names-size = length-names bytes (omega arith);
       bodies-size = length-drop (8 + heldIn bytes) bytes ∙ omega arith;
     }
+
+-- a body that is not refused ends by the end of the box
+pub body-within : (bytes : List ℕ) (j : ℕ) → firstMet (bodyChecks bytes j) ≡ 0 → bodyStart bytes j + lengthIn bytes ≤ length bytes
+body-within bytes j e =
+    let b = accepted-body bytes j e in
+    omega (arith, accepted-box bytes (b .accepted-box) .size, body-fits (lengthIn bytes) (placeIn (namesIn bytes) j) (heldIn bytes) (b .place))
 
 -- ---- the box of a list of nodes
 

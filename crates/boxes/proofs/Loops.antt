@@ -2,16 +2,16 @@
 -- Assumes nothing.
 use mathlib.Core.Path.{_≡_, refl, sym, _∙_}
 use mathlib.Core.List.{List, _++_, append-assoc}
-use Prim.Native.Nat.{ℕ, _+_, _*_, _≤_, _<_}
+use Prim.Native.Nat.{ℕ, _+_, _-_, _*_, _≤_, _<_}
 use native.Mathlib.Nat.{zero-mul, suc-mul}
 use native.Mathlib.Numerals.{add-one}
 use native.Mathlib.Omega.{arith}
 use lib.ListN.{length, getD, drop, length-append, drop-of-length-le}
 use lib.Seq.{drop-cons, drop-drop, take-at, drop-at}
-use borrow.Rule.Slice.PartMut.{midOf, putMid, same-len-mid}
+use borrow.Rule.Slice.PartMut.{midOf, putMid}
 use Rattle.blocks.specs.Blocks.{blockOf, withBlock, InBuffer}
 use Rattle.blocks.proofs.BlockLaws.{length-withBlock}
-use Rattle.blocks.proofs.PartLaws.{filled, fill-part, fill-done, length-mid, length-blockOf}
+use Rattle.blocks.proofs.PartLaws.{filled, fill-part, fill-done, put-block, length-blockOf}
 use Rattle.boxes.specs.Box.{boxLength}
 use Rattle.boxes.specs.Bodies.{headerOf, bodiesOf, boxOf, withBodies}
 use Rattle.boxes.specs.Places.{ListIn}
@@ -19,6 +19,22 @@ use Rattle.boxes.proofs.Laws.{in-kept, body-fits, length-bodiesOf, body
 
 one-more : (L i : ℕ) → (i + 1) * L ≡ i * L + L
 one-more L i = rw (add-one i) (suc-mul i L)
+
+-- ---- the body at place i, from 0, is block i + 1 of the bodies
+
+module _ (L i : ℕ) where
+  before : i + 1 - 1 ≡ i
+  before = omega arith
+
+  body-in : (bodies : List ℕ) → i * L + L ≤ length bodies → InBuffer L bodies (i + 1)
+  body-in bodies h = record { first = omega arith; last = rw before h }
+
+  body-block : (bodies : List ℕ) → blockOf L bodies (i + 1) ≡ midOf (i * L) L bodies
+  unfolding blockOf
+  body-block bodies = rw before
+
+  put-body : (bodies body : List ℕ) → withBlock L bodies (i + 1) body ≡ putMid (i * L) L bodies body
+  put-body bodies body = rw (← put-block L bodies (i + 1) body, before)
 
 -- the first i bodies are read: the others, put into the buffer as it is now, give what all of them give
 pub record Reading (L : ℕ) (start list bodies nodes : List ℕ) (i : ℕ) : Type 0 where
@@ -35,18 +51,21 @@ module _ {L : ℕ} {start list bodies nodes : List ℕ} {i : ℕ} (w : Reading L
   pub read-node : i < length list → InBuffer L nodes (getD list i 0)
   read-node l = in-kept nodes (w .kept) (w .inside) .each i l
 
-  pub read-fits : i < length list → i * L + L ≤ length bodies
+  read-fits : i < length list → i * L + L ≤ length bodies
   read-fits l = omega (arith, body-fits L i (length list) l)
 
-  pub read-more : i < length list → Reading L start list bodies (withBlock L nodes (getD list i 0) (midOf (i * L) L bodies)) (i + 1)
+  pub read-body : i < length list → InBuffer L bodies (i + 1)
+  read-body l = body-in L i bodies (read-fits l)
+
+  pub read-more : i < length list → Reading L start list bodies (withBlock L nodes (getD list i 0) (blockOf L bodies (i + 1))) (i + 1)
   unfolding withBodies
   read-more l =
       record {
         inside = w .inside;
         size = w .size;
         within = omega arith;
-        kept = length-withBlock L nodes (getD list i 0) (midOf (i * L) L bodies) (read-node l) (length-mid bodies (i * L) L (read-fits l)) ∙ w .kept;
-        rest = w .rest ∙ rw (one-more L i, add-one i, ← drop-drop L (i * L) bodies, drop-cons list i 0 l);
+        kept = length-withBlock L nodes (getD list i 0) (blockOf L bodies (i + 1)) (read-node l) (length-blockOf (read-body l)) ∙ w .kept;
+        rest = w .rest ∙ rw (body-block L i bodies, one-more L i, add-one i, ← drop-drop L (i * L) bodies, drop-cons list i 0 l);
       }
 
   pub read-done : length list ≤ i → nodes ≡ withBodies L start list bodies
@@ -65,10 +84,13 @@ pub write-none : {L : ℕ} {list nodes out : List ℕ} → ListIn L nodes list �
 write-none {L} h e = record { inside = h; size = e; within = omega arith; kept = refl; is = rw (zero-mul L) }
 
 module _ {L : ℕ} {list nodes start out : List ℕ} {i : ℕ} (w : Writing L list nodes start out i) where
-  pub write-fits : i < length list → i * L + L ≤ length out
+  write-fits : i < length list → i * L + L ≤ length out
   write-fits l = omega (arith, body-fits L i (length list) l)
 
-  pub write-more : i < length list → Writing L list nodes start (putMid (i * L) L out (blockOf L nodes (getD list i 0))) (i + 1)
+  pub write-body : i < length list → InBuffer L out (i + 1)
+  write-body l = body-in L i out (write-fits l)
+
+  pub write-more : i < length list → Writing L list nodes start (withBlock L out (i + 1) (blockOf L nodes (getD list i 0))) (i + 1)
   write-more l =
       let r = bodiesOf L nodes list in
       let f = write-fits l in
@@ -76,9 +98,9 @@ module _ {L : ℕ} {list nodes start out : List ℕ} {i : ℕ} (w : Writing L li
         inside = w .inside;
         size = w .size;
         within = omega arith;
-        kept = same-len-mid (i * L) L out (blockOf L nodes (getD list i 0)) (length-blockOf (w .inside .each i l) ∙ sym (length-mid out (i * L) L f)) ∙ w .kept;
+        kept = length-withBlock L out (i + 1) (blockOf L nodes (getD list i 0)) (write-body l) (length-blockOf (w .inside .each i l)) ∙ w .kept;
         is =
-            rw (w .is, ← body-at L nodes list i (w .inside) l, one-more L i)
+            rw (put-body L i out (blockOf L nodes (getD list i 0)), w .is, ← body-at L nodes list i (w .inside) l, one-more L i)
             (fill-part r start (i * L) (i * L) L (omega arith) (omega arith) (omega (arith, length-bodiesOf L nodes list (w .inside))));
       }
 

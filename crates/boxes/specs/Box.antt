@@ -62,6 +62,10 @@ bodyChecks bytes j =
     ∷ (not (ltb (placeIn (namesIn bytes) j) (heldIn bytes)) gives 12)
     ∷ [])
 
+-- where the body of node j begins: after the node numbers, at its place among the named nodes
+abbrev pub bodyStart : List ℕ → ℕ → ℕ
+bodyStart bytes j = 8 + heldIn bytes + placeIn (namesIn bytes) j * lengthIn bytes
+
 -- the body of node j: the L bytes at its place among the named nodes; empty where it is refused
 unfoldable pub bodyOf : List ℕ → ℕ → List ℕ
 bodyOf bytes j =

@@ -3,12 +3,10 @@ ghost use mathlib.Core.Path.{_≡_};
 ghost use mathlib.Core.List.{_++_};
 ghost use Prim.Native.Nat.{_+_, _*_, _≤_, _<_};
 ghost use lib.ListN.{length, drop};
-ghost use borrow.Rule.Slice.PartMut.{midOf, putMid};
 ghost use Rattle.families.specs.Families.{KInRange, familyOf};
 ghost use Rattle.checks.specs.Checks.{firstMet};
 ghost use Rattle.checks.specs.Parameters.{parameterChecks};
-ghost use Rattle.blocks.specs.Blocks.{blockOf, withBlock, InBuffer};
-ghost use Rattle.boxes.specs.Box.{familyIn, kIn, lengthIn, heldIn, zerosIn, namesIn, bodiesIn, nodesIn, boxLength, boxChecks, bodyChecks, bodyOf};
+ghost use Rattle.boxes.specs.Box.{familyIn, kIn, lengthIn, heldIn, zerosIn, namesIn, bodiesIn, nodesIn, boxLength, boxChecks, bodyChecks, bodyStart, bodyOf};
 ghost use Rattle.boxes.specs.Bodies.{headerOf, bodiesOf, boxOf, withBodies};
 ghost use Rattle.boxes.specs.Places.{ListIn};
 ghost use Rattle.boxes.specs.Names.{nameChecks};
@@ -162,6 +160,15 @@ pub fn body_refusal(bytes: &[u8], j: usize) -> u8
     0
 }
 
+// Where the body of node j begins in the box.
+pub fn body_start(bytes: &[u8], j: usize) -> usize
+    requires { ⌜ firstMet (bodyChecks (now bytes) j) ≡ 0 ⌝ }
+    ensures { λ r. ⌜ r ≡ bodyStart (now (bytes .entry)) j ⌝ }
+{
+    let len = block_length(bytes);
+    8 + held(bytes) + lists::place_in(names(bytes), j) * len
+}
+
 // The body of node j, as that part of the box; empty where it is refused, by the number that `body_refusal` gives.
 pub fn body(bytes: &[u8], j: usize) -> &[u8]
     ensures { λ r. ⌜ now r ≡ bodyOf (now (bytes .entry)) j ⌝ }
@@ -170,19 +177,8 @@ pub fn body(bytes: &[u8], j: usize) -> &[u8]
         return &bytes[0..0];
     }
     let len = block_length(bytes);
-    let from = 8 + held(bytes) + lists::place_in(names(bytes), j) * len;
+    let from = body_start(bytes, j);
     &bytes[from..from + len]
-}
-
-// The body at place i, from 0, becomes node j's block.
-fn read_body(len: usize, nodes: &mut [u8], j: usize, bodies: &[u8], i: usize)
-    requires { ⌜ InBuffer len (now nodes) j ⌝ }
-    requires { ⌜ i * len + len ≤ length (now bodies) ⌝ }
-    ensures { λ _. ⌜ now (nodes .exit) ≡ withBlock len (now (nodes .entry)) j (midOf (i * len) len (now (bodies .entry))) ⌝ }
-{
-    let from = i * len;
-    let to = (j - 1) * len;
-    blocks::copy_block(&mut nodes[to..to + len], &bodies[from..from + len]);
 }
 
 // The bodies of a list of nodes become those nodes' blocks; the other places keep their bytes.
@@ -193,7 +189,7 @@ pub fn read_bodies(len: usize, nodes: &mut [u8], list: &[u8], bodies: &[u8])
 {
     let mut i: usize = 0;
     while i < list.len() {
-        read_body(len, nodes, wide(list[i]), bodies, i);
+        blocks::copy_between(len, bodies, i + 1, nodes, wide(list[i]));
         i += 1;
     }
 }
@@ -214,17 +210,6 @@ fn write_header(family: usize, k: usize, len: usize, count: usize, out: &mut [u8
     out[7] = 0;
 }
 
-// Node j's block becomes the body at place i, from 0.
-fn write_body(len: usize, nodes: &[u8], j: usize, out: &mut [u8], i: usize)
-    requires { ⌜ InBuffer len (now nodes) j ⌝ }
-    requires { ⌜ i * len + len ≤ length (now out) ⌝ }
-    ensures { λ _. ⌜ now (out .exit) ≡ putMid (i * len) len (now (out .entry)) (blockOf len (now (nodes .entry)) j) ⌝ }
-{
-    let from = (j - 1) * len;
-    let to = i * len;
-    blocks::copy_block(&mut out[to..to + len], &nodes[from..from + len]);
-}
-
 // The bodies of a list of nodes, in that order, fill `out`.
 fn write_bodies(len: usize, list: &[u8], nodes: &[u8], out: &mut [u8])
     requires { ⌜ ListIn len (now nodes) (now list) ⌝ }
@@ -234,7 +219,7 @@ fn write_bodies(len: usize, list: &[u8], nodes: &[u8], out: &mut [u8])
     let count = list.len();
     let mut i: usize = 0;
     while i < count {
-        write_body(len, nodes, wide(list[i]), out, i);
+        blocks::copy_between(len, nodes, wide(list[i]), out, i + 1);
         i += 1;
     }
 }

@@ -1,12 +1,11 @@
 -- Sessions as C has them, and what the C functions on sessions and boxes give.
-use Prim.Native.Nat.{ℕ, _+_, _*_}
+use Prim.Native.Nat.{ℕ}
 use mathlib.Core.Bool.{Bool, true, false, cond, _||_}
 use mathlib.Core.List.{List, [], _∷_, map}
 use lib.ListN.{length}
 use lib.Dec.{eqb, ltb}
 use Rattle.checks.specs.Checks.{firstMet}
-use Rattle.lists.specs.Lists.{placeIn}
-use Rattle.boxes.specs.Box.{lengthIn, heldIn, namesIn, bodyChecks}
+use Rattle.boxes.specs.Box.{lengthIn, bodyChecks, bodyStart}
 use Rattle.repair.specs.declared.Session.{Session}
 use Rattle.repair.specs.declared.Started.{Started}
 use Rattle.repair.specs.Boxed.{written, outWritten}
@@ -71,5 +70,5 @@ objectOutC s nodes object = cond (someAbove1 (s .live)) object (objectOut (sessi
 unfoldable pub partIn : List ℕ → ℕ → Part
 partIn bytes j =
     cond (eqb (firstMet (bodyChecks bytes j)) 0)
-    (record { refusal = 0; from = 8 + heldIn bytes + placeIn (namesIn bytes) j * lengthIn bytes; length = lengthIn bytes })
+    (record { refusal = 0; from = bodyStart bytes j; length = lengthIn bytes })
     (record { refusal = firstMet (bodyChecks bytes j); from = 0; length = 0 })

@@ -96,27 +96,6 @@ fn some_above_1(bytes: [u8; 256]) -> bool
     false
 }
 
-// The part of a box that is the body of node j.
-fn part_of(bytes: &[u8], j: usize) -> Part
-    ensures { λ r. ⌜ r ≡ partIn (now (bytes .entry)) j ⌝ }
-{
-    let bad = boxes::body_refusal(bytes, j);
-    if bad != 0 {
-        return Part {
-            refusal: bad,
-            from: 0,
-            length: 0,
-        };
-    }
-    let len = boxes::block_length(bytes);
-    let place = lists::place_in(boxes::names(bytes), j);
-    Part {
-        refusal: 0,
-        from: 8 + boxes::held(bytes) + place * len,
-        length: len,
-    }
-}
-
 impl MarkedSession {
     // The session that C's is, where every byte is 0 or 1.
     fn session(self) -> Session
@@ -188,7 +167,21 @@ pub extern "C" fn mogtriz_read(bytes: &[u8], nodes: &mut [u8]) -> StartAnswer
 pub extern "C" fn mogtriz_body(bytes: &[u8], node: usize) -> Part
     ensures { λ r. ⌜ r ≡ partIn (now (bytes .entry)) node ⌝ }
 {
-    part_of(bytes, node)
+    let bad = boxes::body_refusal(bytes, node);
+    if bad != 0 {
+        return Part {
+            refusal: bad,
+            from: 0,
+            length: 0,
+        };
+    }
+    let from = boxes::body_start(bytes, node);
+    let len = boxes::block_length(bytes);
+    Part {
+        refusal: 0,
+        from: from,
+        length: len,
+    }
 }
 
 // A box of the listed live nodes.

@@ -2,7 +2,7 @@
 -- Assumes nothing.
 use Prim.Native.Nat.{_-_}
 use lib.ListN.{length}
-use Rattle.boxes.proofs.Loops.{Reading, read-none, read-node, read-fits, read-more, read-done}
+use Rattle.boxes.proofs.Loops.{Reading, read-none, read-node, read-body, read-more, read-done}
 use borrow.Author.Needs.{needs}
 use native.Mathlib.Omega.{arith}
 use Rattle.boxes.proofs.read_bodies.Statement.{statement}
@@ -17,15 +17,15 @@ abbrev μ-loop : tie.MeasureT-loop
 loop-holds : tie.Need-loop-holds Inv-loop μ-loop
 loop-holds c = let p = c .before .before .before .pre in read-none (p .0) (p .1)
 
-read-body-requires : tie.Need-read-body-requires Inv-loop μ-loop
-read-body-requires c κs =
+copy-between-requires : tie.Need-copy-between-requires Inv-loop μ-loop
+copy-between-requires c κs =
     let l = c .before .before .before .before .loop .inv in
-    (rw (c .wide .ensures) (read-node l (omega arith)), read-fits l (omega arith))
+    (read-body l (omega arith), rw (c .wide .ensures) (read-node l (omega arith)))
 
 loop-again : tie.Need-loop-again Inv-loop μ-loop
 loop-again c =
     let l = c .before .before .before .before .before .before .before .loop .inv in
-    rw (c .before .before .read-body .ensures, c .before .before .before .wide .ensures) (read-more l (omega arith))
+    rw (c .before .before .copy-between .ensures, c .before .before .before .wide .ensures) (read-more l (omega arith))
 
 returns : tie.Need-returns Inv-loop μ-loop
 returns c = read-done (c .before .loop .inv) (omega arith)
@@ -38,8 +38,9 @@ read-bodies-spec =
     μ-loop
     loop-holds
     (λ c. search needs)
+    (λ c. search needs)
     (λ c κs. search needs)
-    read-body-requires
+    copy-between-requires
     (λ c. search needs)
     (λ c. search needs)
     loop-again

@@ -2,7 +2,7 @@
 -- Assumes nothing.
 use Prim.Native.Nat.{_-_}
 use lib.ListN.{length}
-use Rattle.boxes.proofs.Loops.{Writing, write-none, write-fits, write-more, write-done}
+use Rattle.boxes.proofs.Loops.{Writing, write-none, write-body, write-more, write-done}
 use borrow.Author.Needs.{needs}
 use native.Mathlib.Omega.{arith}
 use Rattle.boxes.proofs.write_bodies.Statement.{statement}
@@ -17,15 +17,15 @@ abbrev μ-loop : tie.MeasureT-loop
 loop-holds : tie.Need-loop-holds Inv-loop μ-loop
 loop-holds c = let p = c .before .before .before .pre in write-none (p .0) (p .1)
 
-write-body-requires : tie.Need-write-body-requires Inv-loop μ-loop
-write-body-requires c κs =
+copy-between-requires : tie.Need-copy-between-requires Inv-loop μ-loop
+copy-between-requires c κs =
     let l = c .before .before .before .before .loop in
-    (rw (c .before .wide .ensures) (l .inv .inside .each (l .i) (omega arith)), write-fits (l .inv) (omega arith))
+    (rw (c .before .wide .ensures) (l .inv .inside .each (l .i) (omega arith)), write-body (l .inv) (omega arith))
 
 loop-again : tie.Need-loop-again Inv-loop μ-loop
 loop-again c =
     let l = c .before .before .before .before .before .before .before .loop .inv in
-    rw (c .before .before .write-body .ensures, c .before .before .before .before .wide .ensures) (write-more l (omega arith))
+    rw (c .before .before .copy-between .ensures, c .before .before .before .before .wide .ensures) (write-more l (omega arith))
 
 returns : tie.Need-returns Inv-loop μ-loop
 returns c = write-done (c .before .loop .inv) (omega arith)
@@ -39,7 +39,8 @@ write-bodies-spec =
     loop-holds
     (λ c. search needs)
     (λ c κs. search needs)
-    write-body-requires
+    (λ c. search needs)
+    copy-between-requires
     (λ c. search needs)
     (λ c. search needs)
     loop-again

@@ -1,0 +1,39 @@
+-- `boxes::body_start` meets its contract: the body ends by the end of the box, and so its beginning is a number.
+-- Assumes nothing.
+use mathlib.Core.Path.{_≡_}
+use Prim.Native.Nat.{_*_}
+use native.Mathlib.Omega.{arith}
+use borrow.Author.Needs.{needs}
+use Rattle.lists.specs.Lists.{placeIn}
+use Rattle.boxes.specs.Box.{lengthIn, namesIn}
+use Rattle.boxes.proofs.Laws.{body-within}
+use Rattle.boxes.proofs.body_start.Statement.{statement}
+use Rattle.boxes.proofs.body_start.Tie as tie
+
+-- the body's place and L, as the code has them
+place-is : (c : tie.After-place-in)
+    → c .place-in .result * c .before .before .before .block-length .result
+    ≡ placeIn (namesIn (c .before .before .before .before .before .args .bytes .now)) (c .before .before .before .before .before .args .j) * lengthIn (c .before .before .before .before .before .args .bytes .now)
+place-is c = cc
+
+names-requires : tie.Need-names-requires
+names-requires c κs = let s = body-within _ _ (c .before .before .before .pre) in (omega arith, omega arith)
+
+add-result-2 : tie.Need-add-result-2
+add-result-2 c = omega (arith, place-is c, c .before .before .held .ensures, body-within _ _ (c .before .before .before .before .before .pre))
+
+returns : tie.Need-returns
+returns c = rw (place-is c, c .before .before .held .ensures)
+
+pub body-start-spec : {M : Type 1} → statement M
+body-start-spec =
+    tie.close
+    (tie.spec
+    (λ c κs. omega (arith, body-within _ _ (c .before .pre)))
+    (λ c κs. omega (arith, body-within _ _ (c .before .before .pre)))
+    (λ c. omega (arith, c .held .ensures, body-within _ _ (c .before .before .before .pre)))
+    names-requires
+    (λ c κs. search needs)
+    (λ c. omega (arith, place-is c, body-within _ _ (c .before .before .before .before .before .pre)))
+    add-result-2
+    returns)
