@@ -1,12 +1,13 @@
 -- `lists::live_outside` meets its contract: mark 0 is asked first, and before each turn a mark above n is live exactly when one from j on is.
 -- Assumes nothing.
 use mathlib.Core.Path.{_≡_, sym, ap, _∙_}
+use mathlib.Core.Bool.{true, false}
 use Prim.Native.Nat.{_+_, _-_}
 use denote.Ref.{now}
 use native.Mathlib.Omega.{arith}
 use borrow.Author.Needs.{needs}
 use Rattle.lists.proofs.Walks.{live-step, live-end}
-use Rattle.lists.specs.Lists.{someLive, liveOutside}
+use Rattle.lists.specs.Lists.{isLive, someLive, liveOutside}
 use Rattle.lists.proofs.live_outside.Statement.{statement}
 use Rattle.lists.proofs.live_outside.Tie as tie
 
@@ -18,14 +19,15 @@ abbrev μ-loop : tie.MeasureT-loop
 
 returns : tie.Need-returns Inv-loop μ-loop
 unfolding liveOutside
-returns c = simp (c .if1 .taken)
+returns c = let live : isLive (c .before .before .args .marks .now) 0 ≡ true = c .if1 .taken in simp live
 
 loop-holds : tie.Need-loop-holds Inv-loop μ-loop
 unfolding liveOutside
 loop-holds c =
     let g = c .before .before .args in
     let e : 255 - g .n ≡ 256 - (g .n + 1) = omega arith in
-    simp (c .if1 .left) (ap (someLive (now (g .marks)) (g .n + 1)) e)
+    let missing : isLive (now (g .marks)) 0 ≡ false = c .if1 .left in
+    simp missing (ap (someLive (now (g .marks)) (g .n + 1)) e)
 
 returns-2 : tie.Need-returns-2 Inv-loop μ-loop
 returns-2 c =

@@ -21,10 +21,10 @@ loop-holds : tie.Need-loop-holds Inv-loop μ-loop
 loop-holds c = (omega arith, refl)
 
 returns : tie.Need-returns Inv-loop μ-loop
-returns c = sym (c .before .before .loop .inv .1 ∙ above-step (c .before .before .before .args .t1) (c .before .before .loop .j) (omega arith) ∙ rw (lt-ltb _ _ (c .if1 .taken)))
+returns c = sym (c .before .before .loop .inv .1 ∙ above-step (c .before .before .before .args .t1) (c .before .before .loop .j) (omega arith) ∙ rw (lt-ltb 1 _ (c .if1 .taken)))
 
 loop-again : tie.Need-loop-again Inv-loop μ-loop
-loop-again c = (omega arith, c .before .before .loop .inv .1 ∙ above-step (c .before .before .before .args .t1) (c .before .before .loop .j) (omega arith) ∙ rw (le-ltb _ _ (c .if1 .left)))
+loop-again c = (omega arith, c .before .before .loop .inv .1 ∙ above-step (c .before .before .before .args .t1) (c .before .before .loop .j) (omega arith) ∙ rw (le-ltb 1 _ (c .if1 .left)))
 
 returns-2 : tie.Need-returns-2 Inv-loop μ-loop
 returns-2 c = sym (c .before .loop .inv .1 ∙ above-end (c .before .before .args .t1) (c .before .loop .j) (omega arith))
