@@ -1,0 +1,10 @@
+pub mod Tests
+pub mod Digits
+pub mod Separate
+pub mod Reached
+pub mod Cut
+pub mod Known
+pub mod Full
+pub mod Pairs
+pub mod Missing
+pub mod Count

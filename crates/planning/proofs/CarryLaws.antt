@@ -1,0 +1,86 @@
+-- Steps made one after the other on a nodes buffer, as far as they have come.
+-- Assumes nothing.
+use mathlib.Core.Path.{_≡_, refl, sym, ap, _∙_, subst}
+use mathlib.Core.List.{List, [], _∷_}
+use Prim.Native.Nat.{ℕ, zero, suc, _+_, _-_, _*_, _≤_, _<_}
+use native.Mathlib.Omega.{arith}
+use lib.ListN.{length, getD, drop}
+use lib.Seq.{drop-drop, getD-drop}
+use Rattle.blocks.specs.Blocks.{xorBytes, blockOf, InBuffer}
+use Rattle.blocks.proofs.BlockLaws.{length-withBlock}
+use Rattle.blocks.proofs.PartLaws.{length-blockOf}
+use Rattle.blocks.proofs.XorBytes.{length-xorBytes}
+use Rattle.planning.specs.Plan.{Step}
+use Rattle.planning.specs.Made.{mended, nodesMade, stepsIn, StepIn, AllIn}
+
+in-kept : {L j : ℕ} {nodes : List ℕ} (other : List ℕ) → length other ≡ length nodes → InBuffer L nodes j → InBuffer L other j
+in-kept other e h = record { first = h .first; last = omega (arith, h .last) }
+
+-- what lies in a buffer lies in every other one of its length
+pub all-kept : (L : ℕ) (nodes : List ℕ) (steps : List Step) (other : List ℕ) → length other ≡ length nodes → AllIn L nodes steps → AllIn L other steps
+all-kept L nodes [] other e h = tt
+all-kept L nodes (step ∷ steps) other e (h, t) = (
+  record {
+    node = in-kept other e (h .node);
+    smaller = in-kept other e (h .smaller);
+    larger = in-kept other e (h .larger);
+    not-smaller = h .not-smaller;
+    not-larger = h .not-larger;
+  },
+  all-kept L nodes steps other e t,
+)
+
+pub length-mended : {L j a b : ℕ} {nodes : List ℕ} → InBuffer L nodes j → InBuffer L nodes a → InBuffer L nodes b → length (mended L nodes j a b) ≡ length nodes
+length-mended {L} {j} {a} {b} {nodes} hj ha hb =
+    length-withBlock L nodes j (xorBytes (blockOf L nodes a) (blockOf L nodes b)) hj
+    (length-xorBytes (blockOf L nodes a) (blockOf L nodes b) (length-blockOf ha ∙ sym (length-blockOf hb)) ∙ length-blockOf ha)
+
+-- the first i of the steps are made
+pub record Carried (L : ℕ) (bytes : List ℕ) (count : ℕ) (start nodes : List ℕ) (i : ℕ) : Type 0 where
+  pub room : 4 * count ≤ length bytes
+  pub within : i ≤ count
+  pub kept : length nodes ≡ length start
+  pub inside : AllIn L nodes (stepsIn (drop (4 * i) bytes) (count - i))
+  pub rest : nodesMade L start (stepsIn bytes count) ≡ nodesMade L nodes (stepsIn (drop (4 * i) bytes) (count - i))
+
+pub carry-none : {L count : ℕ} {bytes nodes : List ℕ} → 4 * count ≤ length bytes → AllIn L nodes (stepsIn bytes count) → Carried L bytes count nodes nodes 0
+carry-none {count = count} h a = let e : count - 0 ≡ count = omega arith in record { room = h; within = omega arith; kept = refl; inside = rw e a; rest = rw e }
+
+module _ {L : ℕ} {bytes : List ℕ} {count : ℕ} {start nodes : List ℕ} {i : ℕ} (w : Carried L bytes count start nodes i) where
+  module _ (h : i < count) where
+    -- step i, from 0
+    abbrev here : Step
+    here = record { round = getD bytes (4 * i) 0; node = getD bytes (4 * i + 1) 0; smaller = getD bytes (4 * i + 2) 0; larger = getD bytes (4 * i + 3) 0 }
+
+    next : stepsIn (drop (4 * i) bytes) (count - i) ≡ here ∷ stepsIn (drop (4 * (i + 1)) bytes) (count - (i + 1))
+    unfolding stepsIn
+    next =
+        let e : count - i ≡ suc (count - (i + 1)) = omega arith in
+        let f : 4 * i + 0 ≡ 4 * i = omega arith in
+        let d : 4 * (i + 1) ≡ 4 * i + 4 = omega arith in
+        let g : (p : ℕ) → getD (drop (4 * i) bytes) p 0 ≡ getD bytes (4 * i + p) 0 = λ p. rw getD-drop in
+        ap (stepsIn (drop (4 * i) bytes)) e ∙ rw (g 0, g 1, g 2, g 3, f, drop-drop 4 (4 * i) bytes, d)
+
+    both : StepIn L nodes here × AllIn L nodes (stepsIn (drop (4 * (i + 1)) bytes) (count - (i + 1)))
+    both = subst (AllIn L nodes) next (w .inside)
+
+    pub carry-step : StepIn L nodes here
+    carry-step = both .0
+
+    pub carry-more : Carried L bytes count start (mended L nodes (getD bytes (4 * i + 1) 0) (getD bytes (4 * i + 2) 0) (getD bytes (4 * i + 3) 0)) (i + 1)
+    unfolding nodesMade
+    carry-more =
+        let e = length-mended (carry-step .node) (carry-step .smaller) (carry-step .larger) in
+        record {
+          room = w .room;
+          within = omega arith;
+          kept = e ∙ w .kept;
+          inside = all-kept L nodes (stepsIn (drop (4 * (i + 1)) bytes) (count - (i + 1))) _ e (both .1);
+          rest = w .rest ∙ rw next;
+        }
+
+  pub carry-done : count ≤ i → nodes ≡ nodesMade L start (stepsIn bytes count)
+  unfolding nodesMade stepsIn
+  carry-done h =
+      let e : count - i ≡ 0 = omega arith in
+      sym (w .rest ∙ ap (λ (m : ℕ). nodesMade L nodes (stepsIn (drop (4 * i) bytes) m)) e)

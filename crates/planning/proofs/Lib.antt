@@ -1,0 +1,9 @@
+pub mod PairLaws
+pub mod SearchLaws
+pub mod Steps
+pub mod RoundLaws
+pub mod MakeLaws
+pub mod PlanLaws
+pub mod PlannedLaws
+pub mod CarryLaws
+pub mod Proved

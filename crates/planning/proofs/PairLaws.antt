@@ -1,0 +1,207 @@
+-- The pair that repairs a node: the larger node is the one with the XOR of the two columns, and the smaller is found among the
+-- live nodes.
+-- Assumes nothing.
+use mathlib.Core.Path.{_≡_, refl, sym, ap, _∙_}
+use mathlib.Core.Bool.{Bool, true, false, cond, not, _&&_, false≢true}
+use mathlib.Core.List.{List, [], _∷_}
+use Prim.Native.Nat.{ℕ, zero, suc, _+_, _-_, _≤_, _<_}
+use mathlib.Core.Logic.{_⊎_, inl, inr}
+use native.Mathlib.Nat.{eq-zero-or-pos}
+use native.Mathlib.Numerals.{add-one}
+use native.Mathlib.Omega.{arith}
+use borrow.Author.Tests.{lt-ltb, le-ltb, ltb-true, eqb-true, eq-eqb}
+use lib.Bits.{bitXor}
+use lib.Dec.{eqb, ltb}
+use lib.ListN.{length, getD, drop, drop-of-length-le}
+use lib.Seq.{drop-cons}
+use Rattle.base.proofs.Tests.{and-left, and-right, and-both, not-both, is-false}
+use Rattle.base.proofs.Xor.{xor-third, xor-third-of}
+use Rattle.families.specs.declared.Family.{Family}
+use Rattle.families.specs.Families.{KInRange, IsNode, nodeCount, columnOf, nodeOf, areRelated, firstFrom, columnTable}
+use Rattle.families.proofs.First.{first-of, first-none, found}
+use Rattle.families.proofs.Laws.{few, node-is, node-of, related-turn}
+use Rattle.families.proofs.TableLaws.{table-at}
+use Rattle.lists.specs.Lists.{isLive, liveFrom, liveNodes}
+use Rattle.planning.specs.Pairs.{largerNode, smallerNode}
+use Rattle.planning.specs.Plan.{isRepaired}
+use Rattle.planning.specs.Search.{nextNode}
+
+-- ---- the larger node
+
+module _ (f : Family) (k : ℕ) (r : KInRange f k) (marks : List Bool) (j a : ℕ) where
+  -- the only node that can be related to a and j
+  abbrev pub partner : ℕ
+  partner = nodeOf f k (bitXor (columnOf f k j) (columnOf f k a))
+
+  -- as it is found in the table of columns
+  pub partner-at : {columns : List ℕ} {b : ℕ} → IsNode f k j → IsNode f k a → columns ≡ columnTable f k
+      → b ≡ nodeOf f k (bitXor (getD columns j 0) (getD columns a 0)) → b ≡ partner
+  partner-at nj na e g = g ∙ rw (e, table-at f k j r nj, table-at f k a r na)
+
+  related-partner : (b : ℕ) → IsNode f k b → areRelated f k a b j ≡ true → partner ≡ b
+  unfolding areRelated
+  related-partner b nb h =
+      let t = related-turn f k b j a (related-turn f k a b j h) in
+      node-is f k r (bitXor (columnOf f k j) (columnOf f k a)) b nb (xor-third (columnOf f k j) (columnOf f k a) (columnOf f k b) (eqb-true _ 0 t))
+
+  pub partner-few : partner < 256
+  partner-few = go (eq-zero-or-pos partner)
+    where
+      go : (partner ≡ 0) ⊎ (0 < partner) → partner < 256
+      go (inl e) = omega arith
+      go (inr h) = omega (arith, node-of f k r (bitXor (columnOf f k j) (columnOf f k a)) h .is-node .last, few f k r)
+
+  pub partner-related : 1 ≤ partner → areRelated f k a partner j ≡ true
+  unfolding areRelated
+  partner-related h =
+      let n = node-of f k r (bitXor (columnOf f k j) (columnOf f k a)) h in
+      related-turn f k j a partner (eq-eqb _ 0 (xor-third-of (columnOf f k j) (columnOf f k a) (columnOf f k partner) (n .has)))
+
+  test : ℕ → Bool
+  test b = isLive marks b && areRelated f k a b j
+
+  -- a node above a that passes is the partner, and live
+  only : a ≤ nodeCount f k → (b : ℕ) → suc a ≤ b → b < suc a + (nodeCount f k - a) → test b ≡ true → (partner ≡ b) × (isLive marks b ≡ true)
+  unfolding test
+  only h b l u t =
+      (related-partner b (record { first = omega arith; last = omega arith }) (and-right (isLive marks b) (areRelated f k a b j) t), and-left (isLive marks b) (areRelated f k a b j) t)
+
+  pub larger-none : a ≤ nodeCount f k → (a < partner → isLive marks partner ≡ true → ⊥) → largerNode f k marks j a ≡ 0
+  unfolding largerNode test
+  larger-none h none =
+      first-none test (suc a) (nodeCount f k - a) (λ b l u. is-false (test b) (λ t.
+      let o = only h b l u t in
+      none (omega (arith, o .0)) (ap (isLive marks) (o .0) ∙ o .1)))
+
+  pub larger-is : IsNode f k a → a < partner → isLive marks partner ≡ true → largerNode f k marks j a ≡ partner
+  unfolding largerNode test
+  larger-is n l v =
+      let p = node-of f k r (bitXor (columnOf f k j) (columnOf f k a)) (omega arith) .is-node in
+      first-of test (suc a) (nodeCount f k - a) partner l (omega (arith, p .last, n .last))
+      (and-both (isLive marks partner) (areRelated f k a partner j) v (partner-related (omega arith)))
+      (λ b m u. is-false (test b) (λ t. below b u (only (n .last) b m (omega (arith, p .last, n .last)) t .0)))
+    where
+      below : (b : ℕ) → b < partner → partner ≡ b → ⊥
+      below b u e = omega arith
+
+  -- what a larger node is, where there is one
+  pub record Larger : Type 0 where
+    pub above : a < largerNode f k marks j a
+    pub last : largerNode f k marks j a ≤ nodeCount f k
+    pub live : isLive marks (largerNode f k marks j a) ≡ true
+    pub related : areRelated f k a (largerNode f k marks j a) j ≡ true
+
+  pub larger : 1 ≤ largerNode f k marks j a → Larger
+  unfolding largerNode test
+  larger h =
+      let g = found test (suc a) (nodeCount f k - a) h in
+      let b = firstFrom test (suc a) (nodeCount f k - a) in
+      record {
+        above = g .from;
+        last = omega (arith, g .from, g .below);
+        live = and-left (isLive marks b) (areRelated f k a b j) (g .passes);
+        related = and-right (isLive marks b) (areRelated f k a b j) (g .passes);
+      }
+
+-- ---- the first of a list that passes a test
+
+unfoldable pub firstIn : (ℕ → Bool) → List ℕ → ℕ
+firstIn test [] = 0
+firstIn test (x ∷ list) = cond (test x) x (firstIn test list)
+
+module _ (test : ℕ → Bool) (list : List ℕ) (i : ℕ) where
+  pub first-step : i < length list → firstIn test (drop i list) ≡ cond (test (getD list i 0)) (getD list i 0) (firstIn test (drop (i + 1) list))
+  unfolding firstIn
+  first-step h = rw (add-one, drop-cons list i 0 h)
+
+  pub first-end : length list ≤ i → firstIn test (drop i list) ≡ 0
+  unfolding firstIn
+  first-end h = rw (drop-of-length-le list h)
+
+-- the live numbers alone need be asked
+pub first-live : (test : ℕ → Bool) (marks : List Bool) (j m : ℕ) → firstFrom (λ a. isLive marks a && test a) j m ≡ firstIn test (liveFrom marks j m)
+unfolding firstFrom firstIn liveFrom
+first-live test marks j zero = refl
+first-live test marks j (suc m) = go (isLive marks j) (first-live test marks (suc j) m)
+  where
+    later : ℕ
+    later = firstFrom (λ a. isLive marks a && test a) (suc j) m
+
+    go : (b : Bool) → later ≡ firstIn test (liveFrom marks (suc j) m)
+        → cond (b && test j) j later ≡ firstIn test (cond b (j ∷ liveFrom marks (suc j) m) (liveFrom marks (suc j) m))
+    go true e = ap (cond (test j) j) e
+    go false e = e
+
+-- a has a larger node with which it repairs j
+abbrev pub hasLarger : Family → ℕ → List Bool → ℕ → ℕ → Bool
+hasLarger f k marks j a = ltb 0 (largerNode f k marks j a)
+
+pub smaller-first : (f : Family) (k : ℕ) (marks : List Bool) (j : ℕ) → smallerNode f k marks j ≡ firstIn (hasLarger f k marks j) (liveNodes marks (nodeCount f k))
+unfolding smallerNode
+smaller-first f k marks j = first-live (hasLarger f k marks j) marks 1 (nodeCount f k)
+
+-- ---- what a node's pair is, where it has one
+
+module _ (f : Family) (k : ℕ) (r : KInRange f k) (marks : List Bool) (j : ℕ) where
+  abbrev small : ℕ
+  small = smallerNode f k marks j
+
+  abbrev large : ℕ
+  large = largerNode f k marks j small
+
+  pub record PairOf : Type 0 where
+    pub smaller : IsNode f k small
+    pub larger : IsNode f k large
+    pub smaller-live : isLive marks small ≡ true
+    pub larger-live : isLive marks large ≡ true
+    pub related : areRelated f k small large j ≡ true
+
+  pub pair-of : 1 ≤ small → PairOf
+  unfolding smallerNode
+  pair-of h =
+      let g = found (λ a. isLive marks a && hasLarger f k marks j a) 1 (nodeCount f k) h in
+      let l = larger f k r marks j small (ltb-true 0 large (and-right (isLive marks small) (ltb 0 large) (g .passes))) in
+      record {
+        smaller = record { first = h; last = omega (arith, g .below) };
+        larger = record { first = omega (arith, l .above); last = l .last };
+        smaller-live = and-left (isLive marks small) (ltb 0 large) (g .passes);
+        larger-live = l .live;
+        related = l .related;
+      }
+
+-- ---- the next node of a round
+
+module _ (f : Family) (k : ℕ) (marks : List Bool) (j : ℕ) (h : j < nodeCount f k) where
+  left : nodeCount f k - j ≡ suc (nodeCount f k - (j + 1))
+  left = omega arith
+
+  pub next-skip : isRepaired f k marks (j + 1) ≡ false → nextNode f k marks j ≡ nextNode f k marks (j + 1)
+  unfolding firstFrom
+  next-skip e = ap (firstFrom (isRepaired f k marks) (suc j)) left ∙ rw (← add-one j, e)
+
+  pub next-is : isRepaired f k marks (j + 1) ≡ true → nextNode f k marks j ≡ j + 1
+  unfolding firstFrom
+  next-is e = ap (firstFrom (isRepaired f k marks) (suc j)) left ∙ rw (← add-one j, e)
+
+pub next-end : (f : Family) (k : ℕ) (marks : List Bool) (j : ℕ) → nodeCount f k ≤ j → nextNode f k marks j ≡ 0
+unfolding firstFrom
+next-end f k marks j h =
+    let e : nodeCount f k - j ≡ 0 = omega arith in
+    ap (firstFrom (isRepaired f k marks) (suc j)) e
+
+-- a live node is not repaired, a missing one where it has a pair
+pub live-kept : (f : Family) (k : ℕ) (marks : List Bool) (j : ℕ) → isLive marks j ≡ true → isRepaired f k marks j ≡ false
+unfolding isRepaired
+live-kept f k marks j e = rw e
+
+pub pair-repairs : (f : Family) (k : ℕ) (marks : List Bool) (j : ℕ) → isLive marks j ≡ false → 1 ≤ smallerNode f k marks j → isRepaired f k marks j ≡ true
+unfolding isRepaired
+pair-repairs f k marks j e h = rw e (lt-ltb 0 (smallerNode f k marks j) h)
+
+pub none-kept : (f : Family) (k : ℕ) (marks : List Bool) (j : ℕ) → smallerNode f k marks j ≡ 0 → isRepaired f k marks j ≡ false
+unfolding isRepaired
+none-kept f k marks j e = rw e (last (not (isLive marks j)))
+  where
+    last : (b : Bool) → (b && false) ≡ false
+    last true = refl
+    last false = refl

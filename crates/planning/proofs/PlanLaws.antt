@@ -1,0 +1,171 @@
+-- The rounds of a plan: a round without steps has no pair left to repair with, so that the plan ends there, and any other
+-- round leaves fewer nodes missing.
+-- Assumes nothing.
+use mathlib.Core.Path.{_≡_, refl, sym, ap, _∙_}
+use mathlib.Core.Bool.{Bool, true, false, cond, _&&_}
+use mathlib.Core.List.{List, [], _∷_, _++_}
+use mathlib.Core.Logic.{_⊎_, inl, inr}
+use Prim.Native.Nat.{ℕ, zero, suc, _+_, _-_, _≤_, _<_}
+use native.Mathlib.Decide.{decLt}
+use native.Mathlib.Omega.{arith}
+use borrow.Author.Tests.{lt-ltb}
+use lib.Bits.{xor-comm}
+use lib.ListN.{length}
+use Rattle.base.proofs.Tests.{and-both, not-both}
+use Rattle.families.specs.declared.Family.{Family}
+use Rattle.families.specs.Families.{KInRange, IsNode, nodeCount, columnOf, areRelated, firstFrom}
+use Rattle.families.proofs.Laws.{related-differ}
+use Rattle.lists.specs.Lists.{isLive, setLive}
+use Rattle.planning.specs.Claims.{CanMakeAll}
+use Rattle.planning.specs.Pairs.{smallerNode, largerNode, NoPairLeft}
+use Rattle.planning.specs.Plan.{Step, isRepaired, stepOf, stepsFrom, roundSteps, marksAfter, thenRounds, roundsFrom, nodesLeft}
+use Rattle.planning.proofs.MakeLaws.{length-marksAfter, can-make-append, round-makes, make-counts}
+use Rattle.planning.proofs.PairLaws.{hasLarger, pair-repairs}
+use Rattle.planning.proofs.RoundLaws.{marks-append}
+
+-- ---- a round without steps
+
+-- where a number passes, one is found
+first-hit : (test : ℕ → Bool) (j m i : ℕ) → 1 ≤ j → j ≤ i → i < j + m → test i ≡ true → 1 ≤ firstFrom test j m
+unfolding firstFrom
+first-hit test j zero i p l h t = absurd (omega arith)
+first-hit test j (suc m) i p l h t = go (test j) refl (λ g. first-hit test (suc j) m i (omega arith) g (omega arith) t)
+  where
+    go : (b : Bool) → test j ≡ b → (suc j ≤ i → 1 ≤ firstFrom test (suc j) m) → 1 ≤ cond b j (firstFrom test (suc j) m)
+    go true e later = p
+    go false e later =
+        let ne : j ≡ i → ⊥ = λ q. not-both (test i) t (ap test (sym q) ∙ e) in
+        later (omega arith)
+
+related-swap : (f : Family) (k a b c : ℕ) → areRelated f k a b c ≡ true → areRelated f k b a c ≡ true
+unfolding areRelated
+related-swap f k a b c h = rw (xor-comm (columnOf f k b) (columnOf f k a)) h
+
+module _ (f : Family) (k : ℕ) (marks : List Bool) where
+  -- a live pair gives a smaller node
+  smaller-hit : (j a b : ℕ) → IsNode f k a → IsNode f k b → a < b → isLive marks a ≡ true → isLive marks b ≡ true → areRelated f k a b j ≡ true → 1 ≤ smallerNode f k marks j
+  unfolding smallerNode largerNode
+  smaller-hit j a b na nb l va vb h =
+      let larger : 1 ≤ largerNode f k marks j a =
+      first-hit (λ x. isLive marks x && areRelated f k a x j) (suc a) (nodeCount f k - a) b (omega arith) l (omega (arith, nb .last)) (and-both (isLive marks b) (areRelated f k a b j) vb h) in
+      first-hit (λ x. isLive marks x && hasLarger f k marks j x) 1 (nodeCount f k) a (omega arith) (na .first) (omega (arith, na .last))
+      (and-both (isLive marks a) (hasLarger f k marks j a) va (lt-ltb 0 (largerNode f k marks j a) larger))
+
+  -- a node that is repaired has a step
+  steps-hit : (r j m i : ℕ) → stepsFrom f k marks r j m ≡ [] → j ≤ i → i < j + m → isRepaired f k marks i ≡ true → ⊥
+  unfolding stepsFrom
+  steps-hit r j zero i e l h t = omega arith
+  steps-hit r j (suc m) i e l h t = go (isRepaired f k marks j) refl e (λ q g. steps-hit r (suc j) m i q g (omega arith) t)
+    where
+      later : List Step
+      later = stepsFrom f k marks r (suc j) m
+
+      go : (b : Bool) → isRepaired f k marks j ≡ b → cond b (stepOf f k marks r j ∷ later) later ≡ [] → (later ≡ [] → suc j ≤ i → ⊥) → ⊥
+      go true g q rest = omega (arith, ap length q)
+      go false g q rest =
+          let ne : j ≡ i → ⊥ = λ x. not-both (isRepaired f k marks i) t (ap (isRepaired f k marks) (sym x) ∙ g) in
+          rest q (omega arith)
+
+  pub round-quiet : KInRange f k → (r : ℕ) → roundSteps f k marks r ≡ [] → NoPairLeft f k (isLive marks)
+  round-quiet range r e j a b nj na nb vj va vb h = go (decLt a b) (decLt b a)
+    where
+      hit : 1 ≤ smallerNode f k marks j → ⊥
+      hit l = steps-hit r 1 (nodeCount f k) j e (nj .first) (omega (arith, nj .last)) (pair-repairs f k marks j vj l)
+
+      go : Dec (a < b) → Dec (b < a) → ⊥
+      go (yes l) d = hit (smaller-hit j a b na nb l va vb h)
+      go (no n) (yes l) = hit (smaller-hit j b a nb na l vb va (related-swap f k a b j h))
+      go (no n) (no m) = related-differ f k range a b j nj h (omega arith)
+
+-- ---- one round after another
+
+none-or-some : (steps : List Step) → (steps ≡ []) ⊎ (1 ≤ length steps)
+none-or-some [] = inl refl
+none-or-some (x ∷ steps) = inr (omega arith)
+
+then-some : (steps later : List Step) → 1 ≤ length steps → thenRounds steps later ≡ steps ++ later
+then-some [] later h = absurd (omega arith)
+then-some (x ∷ steps) later h = refl
+
+module _ (f : Family) (k : ℕ) where
+  -- the marks when round r, which began with these, is done
+  abbrev pub afterRound : List Bool → ℕ → List Bool
+  afterRound marks r = marksAfter marks (roundSteps f k marks r)
+
+  -- a round without steps is the last
+  pub rounds-end : (marks : List Bool) (r m : ℕ) → roundSteps f k marks r ≡ [] → roundsFrom f k r marks m ≡ []
+  unfolding roundsFrom
+  rounds-end marks r zero e = refl
+  rounds-end marks r (suc m) e = ap (λ (steps : List Step). thenRounds steps (roundsFrom f k (suc r) (afterRound marks r) m)) e
+
+  pub rounds-suc : (marks : List Bool) (r m : ℕ) → 1 ≤ length (roundSteps f k marks r) → roundsFrom f k r marks (suc m) ≡ roundSteps f k marks r ++ roundsFrom f k (suc r) (afterRound marks r) m
+  unfolding roundsFrom
+  rounds-suc marks r m h = then-some (roundSteps f k marks r) (roundsFrom f k (suc r) (afterRound marks r) m) h
+
+  pub rounds-more : (marks : List Bool) (r m : ℕ) → 1 ≤ length (roundSteps f k marks r) → 1 ≤ m
+      → roundsFrom f k r marks m ≡ roundSteps f k marks r ++ roundsFrom f k (suc r) (afterRound marks r) (m - 1)
+  rounds-more marks r m h l =
+      let e : m ≡ suc (m - 1) = omega arith in
+      ap (roundsFrom f k r marks) e ∙ rounds-suc marks r (m - 1) h
+
+  module _ (range : KInRange f k) where
+    -- a round leaves as many nodes fewer missing as it has steps
+    pub round-counts : (marks : List Bool) → length marks ≡ 256 → (r : ℕ) → length (roundSteps f k marks r) + nodesLeft (afterRound marks r) (nodeCount f k) ≡ nodesLeft marks (nodeCount f k)
+    round-counts marks size r = make-counts f k range marks size (roundSteps f k marks r) (round-makes f k range marks size r)
+
+    after-size : (marks : List Bool) → length marks ≡ 256 → (r : ℕ) → length (afterRound marks r) ≡ 256
+    after-size marks size r = length-marksAfter marks (roundSteps f k marks r) ∙ size
+
+    pub rounds-make : (m : ℕ) (marks : List Bool) → length marks ≡ 256 → (r : ℕ) → CanMakeAll f k marks (roundsFrom f k r marks m)
+    unfolding roundsFrom
+    rounds-make zero marks size r = tt
+    rounds-make (suc m) marks size r = go (none-or-some (roundSteps f k marks r)) (rounds-make m (afterRound marks r) (after-size marks size r) (suc r))
+      where
+        go : (roundSteps f k marks r ≡ []) ⊎ (1 ≤ length (roundSteps f k marks r)) → CanMakeAll f k (afterRound marks r) (roundsFrom f k (suc r) (afterRound marks r) m)
+            → CanMakeAll f k marks (roundsFrom f k r marks (suc m))
+        go (inl e) later = rw (rounds-end marks r (suc m) e) tt
+        go (inr h) later =
+            rw (rounds-suc marks r m h)
+            (can-make-append f k marks (roundSteps f k marks r) (roundsFrom f k (suc r) (afterRound marks r) m) (round-makes f k range marks size r) later)
+
+    -- where no node is missing a round has no steps
+    none-missing : (marks : List Bool) → length marks ≡ 256 → (r : ℕ) → nodesLeft marks (nodeCount f k) ≤ 0 → roundSteps f k marks r ≡ []
+    none-missing marks size r l = go (none-or-some (roundSteps f k marks r))
+      where
+        go : (roundSteps f k marks r ≡ []) ⊎ (1 ≤ length (roundSteps f k marks r)) → roundSteps f k marks r ≡ []
+        go (inl e) = e
+        go (inr h) = absurd (omega (arith, round-counts marks size r))
+
+    -- as many rounds as nodes are missing are enough: no pair is left, and more rounds add nothing
+    pub rounds-quiet : (m : ℕ) (marks : List Bool) → length marks ≡ 256 → (r : ℕ) → nodesLeft marks (nodeCount f k) ≤ m
+        → NoPairLeft f k (isLive (marksAfter marks (roundsFrom f k r marks m)))
+    unfolding setLive
+    rounds-quiet zero marks size r l =
+        let e = none-missing marks size r l in
+        rw (rounds-end marks r 0 e) (round-quiet f k marks range r e)
+    rounds-quiet (suc m) marks size r l = go (none-or-some (roundSteps f k marks r)) (λ h. rounds-quiet m (afterRound marks r) (after-size marks size r) (suc r) h)
+      where
+        go : (roundSteps f k marks r ≡ []) ⊎ (1 ≤ length (roundSteps f k marks r))
+            → (nodesLeft (afterRound marks r) (nodeCount f k) ≤ m → NoPairLeft f k (isLive (marksAfter (afterRound marks r) (roundsFrom f k (suc r) (afterRound marks r) m))))
+            → NoPairLeft f k (isLive (marksAfter marks (roundsFrom f k r marks (suc m))))
+        go (inl e) later = rw (rounds-end marks r (suc m) e) (round-quiet f k marks range r e)
+        go (inr h) later =
+            rw (rounds-suc marks r m h, marks-append marks (roundSteps f k marks r) (roundsFrom f k (suc r) (afterRound marks r) m))
+            (later (omega (arith, round-counts marks size r)))
+
+    pub rounds-enough : (m more : ℕ) (marks : List Bool) → length marks ≡ 256 → (r : ℕ) → nodesLeft marks (nodeCount f k) ≤ m → m ≤ more
+        → roundsFrom f k r marks more ≡ roundsFrom f k r marks m
+    rounds-enough zero more marks size r l h =
+        let e = none-missing marks size r l in
+        rounds-end marks r more e ∙ sym (rounds-end marks r 0 e)
+    rounds-enough (suc m) zero marks size r l h = absurd (omega arith)
+    rounds-enough (suc m) (suc more) marks size r l h = go (none-or-some (roundSteps f k marks r)) (λ g. rounds-enough m more (afterRound marks r) (after-size marks size r) (suc r) g (omega arith))
+      where
+        go : (roundSteps f k marks r ≡ []) ⊎ (1 ≤ length (roundSteps f k marks r))
+            → (nodesLeft (afterRound marks r) (nodeCount f k) ≤ m → roundsFrom f k (suc r) (afterRound marks r) more ≡ roundsFrom f k (suc r) (afterRound marks r) m)
+            → roundsFrom f k r marks (suc more) ≡ roundsFrom f k r marks (suc m)
+        go (inl e) later = rounds-end marks r (suc more) e ∙ sym (rounds-end marks r (suc m) e)
+        go (inr g) later =
+            rounds-suc marks r more g
+            ∙ ap (λ (s : List Step). roundSteps f k marks r ++ s) (later (omega (arith, round-counts marks size r)))
+            ∙ sym (rounds-suc marks r m g)

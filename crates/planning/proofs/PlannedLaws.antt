@@ -1,0 +1,149 @@
+-- A plan made round by round: what has been put into the list and marked, and that there is room for every step.
+-- Assumes nothing.
+use mathlib.Core.Path.{_≡_, refl, sym, ap, ap₂, _∙_, subst}
+use mathlib.Core.Bool.{Bool, true, false, cond}
+use mathlib.Core.List.{List, [], _∷_, _++_, append-assoc, append-nil}
+use Prim.Native.Nat.{ℕ, zero, suc, _+_, _-_, _*_, _≤_, _<_}
+use native.Mathlib.Nat.{sub-zero, zero-add}
+use native.Mathlib.Numerals.{add-one}
+use native.Mathlib.Omega.{arith}
+use borrow.Rule.Slice.PartMut.{putMid, same-len-mid}
+use lib.ListN.{length, drop, length-append, take-append-drop}
+use Rattle.blocks.proofs.PartLaws.{length-mid}
+use Rattle.families.specs.declared.Family.{Family}
+use Rattle.families.specs.Families.{KInRange, nodeCount}
+use Rattle.lists.specs.Lists.{liveNodes, setLive}
+use Rattle.planning.specs.Claims.{CanMakeAll}
+use Rattle.planning.specs.Plan.{Step, isRepaired, stepOf, stepsFrom, roundSteps, marksAfter, roundsFrom, planOf, stepBytes, lastRound, nodesLeft}
+use Rattle.planning.specs.Planned.{plannedOf}
+use Rattle.planning.specs.declared.Planned.{Planned}
+use Rattle.planning.proofs.MakeLaws.{length-marksAfter, can-make-append, round-makes, make-counts, left-few, left-is}
+use Rattle.planning.proofs.PlanLaws.{rounds-end, rounds-more}
+use Rattle.planning.proofs.RoundLaws.{bytes-append, length-bytes, marks-append, put-after}
+
+-- ---- the last round
+
+last-append : (s : List Step) (x : Step) (t : List Step) → lastRound (s ++ x ∷ t) ≡ lastRound (x ∷ t)
+unfolding lastRound
+last-append [] x t = refl
+last-append (y ∷ []) x t = refl
+last-append (y ∷ z ∷ s) x t = last-append (z ∷ s) x t
+
+-- every step of round r has this round
+last-from : (f : Family) (k : ℕ) (marks : List Bool) (r j m : ℕ) → 1 ≤ length (stepsFrom f k marks r j m) → lastRound (stepsFrom f k marks r j m) ≡ r
+unfolding stepsFrom lastRound
+last-from f k marks r j zero h = absurd (omega arith)
+last-from f k marks r j (suc m) h = go (isRepaired f k marks j) (stepsFrom f k marks r (suc j) m) (last-from f k marks r (suc j) m) h
+  where
+    go : (b : Bool) (later : List Step) → (1 ≤ length later → lastRound later ≡ r) → 1 ≤ length (cond b (stepOf f k marks r j ∷ later) later)
+        → lastRound (cond b (stepOf f k marks r j ∷ later) later) ≡ r
+    go true [] e l = refl
+    go true (x ∷ later) e l = e (omega arith)
+    go false later e l = e l
+
+last-more : (s t : List Step) (r : ℕ) → 1 ≤ length t → lastRound t ≡ r → lastRound (s ++ t) ≡ r
+last-more s [] r h e = absurd (omega arith)
+last-more s (x ∷ t) r h e = last-append s x t ∙ e
+
+-- ---- the rounds
+
+-- `rounds` rounds are made
+pub record Rounds (f : Family) (k : ℕ) (start : List Bool) (before out : List ℕ) (marks : List Bool) (steps rounds : ℕ) : Type 0 where
+  pub range : KInRange f k
+  pub size : length start ≡ 256
+  pub room : 4 * nodeCount f k ≤ length before
+  pub done : List Step
+  pub makes : CanMakeAll f k start done
+  pub split : planOf f k start ≡ done ++ roundsFrom f k (rounds + 1) marks (nodeCount f k - rounds)
+  pub marked : marks ≡ marksAfter start done
+  pub count : steps ≡ length done
+  pub last : rounds ≡ lastRound done
+  pub fewer : rounds ≤ steps
+  pub kept : length out ≡ length before
+  pub bytes : out ≡ putMid 0 (4 * length done) before (stepBytes done)
+
+pub rounds-none : {f : Family} {k : ℕ} {marks : List Bool} {out : List ℕ} → KInRange f k → length marks ≡ 256 → 4 * nodeCount f k ≤ length out → Rounds f k marks out out marks 0 0
+unfolding planOf setLive stepBytes lastRound
+rounds-none {f} {k} range size h =
+    record {
+      range = range;
+      size = size;
+      room = h;
+      done = [];
+      makes = tt;
+      split = rw (sub-zero (nodeCount f k));
+      marked = refl;
+      count = refl;
+      last = refl;
+      fewer = omega arith;
+      kept = refl;
+      bytes = refl;
+    }
+
+module _ {f : Family} {k : ℕ} {start : List Bool} {before out : List ℕ} {marks : List Bool} {steps rounds : ℕ}
+    (w : Rounds f k start before out marks steps rounds) where
+  -- the next round
+  abbrev round : List Step
+  round = roundSteps f k marks (rounds + 1)
+
+  pub marks-size : length marks ≡ 256
+  marks-size = ap length (w .marked) ∙ length-marksAfter start (w .done) ∙ w .size
+
+  -- the steps made, those of the next round and the nodes left after it are at most n
+  pub all-few : steps + length round ≤ nodeCount f k
+  all-few =
+      let a = make-counts f k (w .range) start (w .size) (w .done) (w .makes) in
+      let b : nodesLeft marks (nodeCount f k) ≡ nodesLeft (marksAfter start (w .done)) (nodeCount f k) = ap (λ (m : List Bool). nodesLeft m (nodeCount f k)) (w .marked) in
+      let c = make-counts f k (w .range) marks marks-size round (round-makes f k (w .range) marks marks-size (rounds + 1)) in
+      omega (arith, a, b, c, w .count, left-few start (nodeCount f k))
+
+  pub round-fits : 4 * steps + 4 * length round ≤ length out
+  round-fits = omega (arith, all-few, w .room, w .kept)
+
+  pub rounds-again : 1 ≤ length round
+      → Rounds f k start before (putMid (4 * steps) (4 * length round) out (stepBytes round)) (marksAfter marks round) (steps + length round) (rounds + 1)
+  rounds-again h =
+      let more = w .done ++ round in
+      let l : length more ≡ length (w .done) + length round = length-append (w .done) round in
+      let fours : 4 * (length (w .done) + length round) ≡ 4 * length (w .done) + 4 * length round = omega arith in
+      let a = all-few in
+      let left : nodeCount f k - (rounds + 1) ≡ nodeCount f k - rounds - 1 = omega arith in
+      record {
+        range = w .range;
+        size = w .size;
+        room = w .room;
+        done = more;
+        makes = can-make-append f k start (w .done) round (w .makes) (subst (λ (m : List Bool). CanMakeAll f k m round) (w .marked) (round-makes f k (w .range) marks marks-size (rounds + 1)));
+        split = w .split ∙ rw (rounds-more f k marks (rounds + 1) (nodeCount f k - rounds) h (omega (arith, w .fewer)), left, add-one (rounds + 1), append-assoc);
+        marked = rw (marks-append start (w .done) round, ← w .marked);
+        count = omega (arith, w .count);
+        last = sym (last-more (w .done) round (rounds + 1) h (last-from f k marks (rounds + 1) 1 (nodeCount f k) h));
+        fewer = omega (arith, w .fewer);
+        kept = same-len-mid (4 * steps) (4 * length round) out (stepBytes round) (length-bytes round ∙ sym (length-mid out (4 * steps) (4 * length round) round-fits)) ∙ w .kept;
+        bytes =
+            rw (w .count, w .bytes, l, bytes-append (w .done) round, fours)
+            (ap (λ (a : ℕ). putMid a (4 * length round) (putMid 0 (4 * length (w .done)) before (stepBytes (w .done))) (stepBytes round)) (sym (zero-add (4 * length (w .done))))
+            ∙ put-after before (stepBytes (w .done)) (stepBytes round) 0 (4 * length (w .done)) (4 * length round) (length-bytes (w .done)) (omega (arith, round-fits, w .count, w .kept)));
+      }
+
+  -- a round without steps ends the plan
+  module _ (e : length round ≡ 0) where
+    none : round ≡ []
+    none = go round e
+      where
+        go : (s : List Step) → length s ≡ 0 → s ≡ []
+        go [] z = refl
+        go (x ∷ s) z = absurd (omega arith)
+
+    plan-done : planOf f k start ≡ w .done
+    plan-done = w .split ∙ rw (rounds-end f k marks (rounds + 1) (nodeCount f k - rounds) none, append-nil)
+
+    pub rounds-answer : record { steps = steps; rounds = rounds; left = nodeCount f k - length (liveNodes marks (nodeCount f k)); live = marks } ≡ plannedOf f k start
+    rounds-answer = rw (plan-done, ← w .marked, w .count, w .last, left-is marks (nodeCount f k))
+
+    pub rounds-bytes : {last : List ℕ} → last ≡ putMid (4 * steps) (4 * length round) out (stepBytes round)
+        → last ≡ stepBytes (planOf f k start) ++ drop (4 * length (planOf f k start)) before
+    unfolding stepBytes
+    rounds-bytes g =
+        let same : putMid (4 * steps) (4 * length round) out (stepBytes round) ≡ out = rw none (take-append-drop (4 * steps) out) in
+        g ∙ same ∙ rw plan-done (w .bytes)

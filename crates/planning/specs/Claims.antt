@@ -1,0 +1,40 @@
+-- What is proved of every plan besides the contracts; proofs/Proved.antt has the proofs.
+use mathlib.Core.Path.{_≡_}
+use mathlib.Core.Bool.{Bool, true, false}
+use mathlib.Core.List.{List, [], _∷_}
+use Prim.Native.Nat.{ℕ, _+_, _≤_}
+use lib.ListN.{length, set}
+use Rattle.families.specs.declared.Family.{Family}
+use Rattle.families.specs.Families.{KInRange, IsNode, nodeCount, areRelated}
+use Rattle.lists.specs.Lists.{isLive}
+use Rattle.planning.specs.Pairs.{NoPairLeft}
+use Rattle.planning.specs.Plan.{Step, marksAfter, roundsFrom, planOf, nodesLeft}
+
+-- a step that can be made: it names a missing node and two live nodes related to it
+pub record CanMake (f : Family) (k : ℕ) (marks : List Bool) (step : Step) : Type 0 where
+  pub node : IsNode f k (step .node)
+  pub smaller : IsNode f k (step .smaller)
+  pub larger : IsNode f k (step .larger)
+  pub related : areRelated f k (step .smaller) (step .larger) (step .node) ≡ true
+  pub missing : isLive marks (step .node) ≡ false
+  pub smaller-live : isLive marks (step .smaller) ≡ true
+  pub larger-live : isLive marks (step .larger) ≡ true
+
+-- each step can be made once those before it are made
+abbrev pub CanMakeAll : Family → ℕ → List Bool → List Step → Type 0
+CanMakeAll f k marks [] = Unit {0}
+CanMakeAll f k marks (step ∷ steps) = CanMake f k marks step × CanMakeAll f k (set marks (step .node) true) steps
+
+-- of the plan from marks
+pub record PlanClaims (f : Family) (k : ℕ) (marks : List Bool) : Type 0 where
+  -- its steps can be made, one after the other
+  pub makes : CanMakeAll f k marks (planOf f k marks)
+  -- after it no missing node has a related pair with both nodes live
+  pub ends : NoPairLeft f k (isLive (marksAfter marks (planOf f k marks)))
+  -- n rounds are enough: more of them add nothing
+  pub enough : (m : ℕ) → nodeCount f k ≤ m → roundsFrom f k 1 marks m ≡ planOf f k marks
+  -- each step repairs one node
+  pub counts : length (planOf f k marks) + nodesLeft (marksAfter marks (planOf f k marks)) (nodeCount f k) ≡ nodesLeft marks (nodeCount f k)
+
+abbrev pub PlanClaim : Type 0
+PlanClaim = (f : Family) (k : ℕ) → KInRange f k → (marks : List Bool) → length marks ≡ 256 → PlanClaims f k marks

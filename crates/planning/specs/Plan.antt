@@ -1,0 +1,78 @@
+-- The plan (document 01, "Plan"): rounds from 1, the steps of a round, and what a plan comes to.
+use mathlib.Core.Bool.{Bool, cond, not, _&&_}
+use mathlib.Core.List.{List, [], _∷_, _++_, map}
+use Prim.Native.Nat.{ℕ, zero, suc}
+use lib.Dec.{ltb}
+use Rattle.families.specs.declared.Family.{Family}
+use Rattle.families.specs.Families.{nodeCount}
+use Rattle.lists.specs.Lists.{isLive, setLive}
+use Rattle.planning.specs.Pairs.{smallerNode, largerNode}
+
+-- a step of a plan: its round, the node that it repairs, and the pair
+pub record Step : Type 0 where
+  pub round : ℕ
+  pub node : ℕ
+  pub smaller : ℕ
+  pub larger : ℕ
+
+-- node j is repaired in a round that begins with these marks: it is missing and has a pair
+unfoldable pub isRepaired : Family → ℕ → List Bool → ℕ → Bool
+isRepaired f k marks j = not (isLive marks j) && ltb 0 (smallerNode f k marks j)
+
+-- its step in round r
+abbrev pub stepOf : Family → ℕ → List Bool → ℕ → ℕ → Step
+stepOf f k marks r j =
+    record { round = r; node = j; smaller = smallerNode f k marks j; larger = largerNode f k marks j (smallerNode f k marks j) }
+
+-- the steps of round r at the nodes j, j + 1, .., of which there are m, rising by node
+unfoldable pub stepsFrom : Family → ℕ → List Bool → ℕ → ℕ → ℕ → List Step
+stepsFrom f k marks r j zero = []
+stepsFrom f k marks r j (suc m) =
+    let later = stepsFrom f k marks r (suc j) m in cond (isRepaired f k marks j) (stepOf f k marks r j ∷ later) later
+
+-- the steps of round r, from the marks when it begins
+abbrev pub roundSteps : Family → ℕ → List Bool → ℕ → List Step
+roundSteps f k marks r = stepsFrom f k marks r 1 (nodeCount f k)
+
+-- the nodes that steps repair
+abbrev pub nodesOf : List Step → List ℕ
+nodesOf steps = map (λ (step : Step). step .node) steps
+
+-- the marks after steps
+abbrev pub marksAfter : List Bool → List Step → List Bool
+marksAfter marks steps = setLive marks (nodesOf steps)
+
+-- a round without repairs ends the plan
+abbrev pub thenRounds : List Step → List Step → List Step
+thenRounds [] later = []
+thenRounds (step ∷ steps) later = (step ∷ steps) ++ later
+
+-- the rounds r, r + 1, .., m at most; a node repaired in a round serves from the next
+unfoldable pub roundsFrom : Family → ℕ → ℕ → List Bool → ℕ → List Step
+roundsFrom f k r marks zero = []
+roundsFrom f k r marks (suc m) =
+    let steps = roundSteps f k marks r in thenRounds steps (roundsFrom f k (suc r) (marksAfter marks steps) m)
+
+-- the plan: n rounds are enough, since each but the last repairs a node (`PlanClaims`)
+unfoldable pub planOf : Family → ℕ → List Bool → List Step
+planOf f k marks = roundsFrom f k 1 marks (nodeCount f k)
+
+-- four bytes a step: round, node, smaller, larger
+unfoldable pub stepBytes : List Step → List ℕ
+stepBytes [] = []
+stepBytes (step ∷ steps) = step .round ∷ step .node ∷ step .smaller ∷ step .larger ∷ stepBytes steps
+
+-- rounds: the last step's; 0 where there is none
+unfoldable pub lastRound : List Step → ℕ
+lastRound [] = 0
+lastRound (step ∷ []) = step .round
+lastRound (step ∷ next ∷ steps) = lastRound (next ∷ steps)
+
+-- how many of the numbers j, j + 1, .., of which there are m, pass the test
+unfoldable pub countFrom : (ℕ → Bool) → ℕ → ℕ → ℕ
+countFrom test j zero = 0
+countFrom test j (suc m) = let later = countFrom test (suc j) m in cond (test j) (suc later) later
+
+-- nodes left: how many of 1 to n are missing
+unfoldable pub nodesLeft : List Bool → ℕ → ℕ
+nodesLeft marks n = countFrom (λ j. not (isLive marks j)) 1 n

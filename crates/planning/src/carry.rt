@@ -1,0 +1,28 @@
+// A plan carried out on a nodes buffer.
+ghost use mathlib.Core.Path.{_≡_};
+ghost use Prim.Native.Nat.{ℕ, _*_, _≤_};
+ghost use lib.ListN.{length};
+ghost use Rattle.planning.specs.Made.{AllIn, stepsIn, nodesMade};
+
+// A byte as a number.
+fn wide(byte: u8) -> usize
+    ensures { λ r. ⌜ r ≡ byte ⌝ }
+{
+    byte as usize
+}
+
+// The first `count` steps of a plan, four bytes each, made one after the other.
+pub fn carry_out(len: usize, steps: &[u8], count: usize, nodes: &mut [u8])
+    requires { ⌜ 4 * count ≤ length (now steps) ⌝ }
+    requires { ⌜ AllIn len (now nodes) (stepsIn (now steps) count) ⌝ }
+    ensures { λ _. ⌜ now (nodes .exit) ≡ nodesMade len (now (nodes .entry)) (stepsIn (now (steps .entry)) count) ⌝ }
+{
+    let mut i: usize = 0;
+    while i < count {
+        let node = wide(steps[4 * i + 1]);
+        let smaller = wide(steps[4 * i + 2]);
+        let larger = wide(steps[4 * i + 3]);
+        blocks::xor_block(nodes, len, node, smaller, larger);
+        i += 1;
+    }
+}

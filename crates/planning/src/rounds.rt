@@ -1,0 +1,101 @@
+// Rounds, and the plan.
+use crate::Planned;
+use crate::Repair;
+use crate::search::next_repair;
+use families::Family;
+ghost use mathlib.Core.Path.{_≡_};
+ghost use mathlib.Core.List.{[], _∷_, _++_};
+ghost use Prim.Native.Nat.{ℕ, _+_, _*_, _≤_, _<_};
+ghost use lib.ListN.{length, drop};
+ghost use borrow.Rule.Slice.PartMut.{putMid};
+ghost use Rattle.families.specs.Families.{KInRange, nodeCount, columnTable};
+ghost use Rattle.planning.specs.Plan.{roundSteps, marksAfter, planOf, stepBytes};
+ghost use Rattle.planning.specs.Planned.{plannedOf};
+
+// A step as its four bytes.
+fn put_step(out: &mut [u8], round: usize, repair: Repair)
+    requires { ⌜ length (now out) ≡ 4 ⌝ }
+    requires { ⌜ (round < 256) × (repair .node < 256) × (repair .smaller < 256) × (repair .larger < 256) ⌝ }
+    ensures { λ _. ⌜ now (out .exit) ≡ round ∷ repair .node ∷ repair .smaller ∷ repair .larger ∷ [] ⌝ }
+{
+    out[0] = round as u8;
+    out[1] = repair.node as u8;
+    out[2] = repair.smaller as u8;
+    out[3] = repair.larger as u8;
+}
+
+// The steps of a round, put into `out` from place `from` on, and their nodes live in `next`; `marks` are those when the round
+// begins. Gives how many they are.
+fn plan_round(
+    family: Family,
+    k: usize,
+    columns: &[usize; 256],
+    marks: &[bool; 256],
+    round: usize,
+    out: &mut [u8],
+    from: usize,
+    next: &mut [bool; 256],
+) -> usize
+    requires { ⌜ KInRange family k × (now columns ≡ columnTable family k) ⌝ }
+    requires { ⌜ round + length (roundSteps family k (now marks) round) ≤ 256 ⌝ }
+    requires { ⌜ from + 4 * length (roundSteps family k (now marks) round) ≤ length (now out) ⌝ }
+    ensures { λ r. ⌜ r ≡ length (roundSteps family k (now (marks .entry)) round) ⌝ }
+    ensures { λ r. ⌜ now (out .exit) ≡ putMid from (4 * length (roundSteps family k (now (marks .entry)) round)) (now (out .entry)) (stepBytes (roundSteps family k (now (marks .entry)) round)) ⌝ }
+    ensures { λ r. ⌜ now (next .exit) ≡ marksAfter (now (next .entry)) (roundSteps family k (now (marks .entry)) round) ⌝ }
+{
+    let n = families::node_count(family, k);
+    let all = lists::list_live(marks, n);
+    let count = lists::count_live(marks, n);
+    let mut steps: usize = 0;
+    let mut node: usize = 0;
+    loop {
+        let repair = next_repair(family, k, columns, &all[..count], marks, node);
+        if repair.node == 0 {
+            return steps;
+        }
+        let at = from + 4 * steps;
+        put_step(&mut out[at..at + 4], round, repair);
+        node = repair.node;
+        next[node] = true;
+        steps += 1;
+    }
+}
+
+// The plan from the marks, put into `out`, which has room for a step for each node.
+pub fn make_plan(family: Family, k: usize, live: [bool; 256], out: &mut [u8]) -> Planned
+    requires { ⌜ KInRange family k × (4 * nodeCount family k ≤ length (now out)) ⌝ }
+    ensures { λ r. ⌜ r ≡ plannedOf family k live ⌝ }
+    ensures { λ _. ⌜ now (out .exit) ≡ stepBytes (planOf family k live) ++ drop (4 * length (planOf family k live)) (now (out .entry)) ⌝ }
+{
+    let n = families::node_count(family, k);
+    let columns = families::columns(family, k);
+    let mut marks = live;
+    let mut steps: usize = 0;
+    let mut rounds: usize = 0;
+    loop {
+        let mut next = marks;
+        let made = plan_round(
+            family,
+            k,
+            &columns,
+            &marks,
+            rounds + 1,
+            out,
+            4 * steps,
+            &mut next,
+        );
+        if made == 0 {
+            break;
+        }
+        marks = next;
+        steps += made;
+        rounds += 1;
+    }
+    let live_count = lists::count_live(&marks, n);
+    Planned {
+        steps: steps,
+        rounds: rounds,
+        left: n - live_count,
+        live: marks,
+    }
+}

@@ -1,0 +1,92 @@
+// The search for the pair that repairs a node.
+use crate::Repair;
+use families::Family;
+ghost use mathlib.Core.Path.{_≡_};
+ghost use Prim.Native.Nat.{ℕ, _≤_};
+ghost use Rattle.families.specs.Families.{KInRange, IsNode, nodeCount, columnTable};
+ghost use Rattle.planning.specs.Pairs.{largerNode};
+ghost use Rattle.planning.specs.Search.{RoundBegins, nextNode, repairOf};
+
+struct Pair {
+    smaller: usize,
+    larger: usize,
+}
+
+// A byte as a number.
+fn wide(byte: u8) -> usize
+    ensures { λ r. ⌜ r ≡ byte ⌝ }
+{
+    byte as usize
+}
+
+// The live node above a that is related to a and j, or 0: no other node than that with the XOR of their columns can be it.
+fn larger_node(
+    family: Family,
+    k: usize,
+    columns: &[usize; 256],
+    marks: &[bool; 256],
+    j: usize,
+    a: usize,
+) -> usize
+    requires { ⌜ KInRange family k × IsNode family k j × IsNode family k a ⌝ }
+    requires { ⌜ now columns ≡ columnTable family k ⌝ }
+    ensures { λ r. ⌜ r ≡ largerNode family k (now (marks .entry)) j a ⌝ }
+{
+    let b = families::node_of(family, k, columns[j] ^ columns[a]);
+    if b <= a {
+        return 0;
+    }
+    if marks[b] {
+        return b;
+    }
+    0
+}
+
+// The first node above `after` that a round repairs, with its pair. The marks are those when the round began, and `live` lists
+// their live nodes: the first members, upward.
+pub fn next_repair(
+    family: Family,
+    k: usize,
+    columns: &[usize; 256],
+    live: &[u8],
+    marks: &[bool; 256],
+    after: usize,
+) -> Repair
+    requires { ⌜ RoundBegins family k (now columns) (now live) (now marks) ⌝ }
+    requires { ⌜ after ≤ nodeCount family k ⌝ }
+    ensures { λ r. ⌜ r ≡ repairOf family k (now (marks .entry)) (nextNode family k (now (marks .entry)) after) ⌝ }
+{
+    let n = families::node_count(family, k);
+    let mut node = after;
+    'walk: while node < n {
+        node += 1;
+        if marks[node] {
+            continue 'walk;
+        }
+        let mut i: usize = 0;
+        let pair = 'search: loop {
+            if live.len() <= i {
+                continue 'walk;
+            }
+            let a = wide(live[i]);
+            let b = larger_node(family, k, columns, marks, node, a);
+            if b != 0 {
+                break 'search Pair {
+                    smaller: a,
+                    larger: b,
+                };
+            }
+            i += 1;
+        };
+        return Repair {
+            node: node,
+            smaller: pair.smaller,
+            larger: pair.larger,
+        };
+    }
+    Repair {
+        node: 0,
+        smaller: 0,
+        larger: 0,
+    }
+}
