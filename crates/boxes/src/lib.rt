@@ -99,13 +99,7 @@ fn names_refusal(n: usize, names: &[u8]) -> u8
     if n < names.len() {
         return 9;
     }
-    if lists::some_outside(n, names) {
-        return 4;
-    }
-    if !lists::is_rising(names) {
-        return 5;
-    }
-    0
+    lists::list_refusal(n, names)
 }
 
 // The first check that is met, or 0, of a box of 8 bytes or more whose family, k and L are in range.
