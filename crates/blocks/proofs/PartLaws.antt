@@ -4,14 +4,15 @@ use mathlib.Core.Path.{_≡_, refl, sym, ap, _∙_}
 use mathlib.Core.List.{List, [], _∷_, _++_, append-assoc, append-nil}
 use mathlib.Core.Logic.{_⊎_, inl, inr, ⊎-elim}
 use Prim.Native.Nat.{ℕ, zero, suc, _+_, _-_, _*_, _≤_, _<_}
+use native.Mathlib.Nat.{add-assoc}
 use native.Mathlib.Numerals.{add-one}
 use native.Mathlib.Decide.{decLt}
 use native.Mathlib.Omega.{arith}
 use lib.Bits.{bitXor}
 use lib.ListN.{length, take, drop, getD, set, length-take, length-drop, length-append, take-append-drop, drop-of-length-le}
-use lib.Seq.{take-all, take-take, take-add, take-append-le, take-append-add, drop-drop, drop-cons, drop-append-le, drop-append-add, length-take-le, set-split}
+use lib.Seq.{take-all, take-at, drop-at, take-take, take-add, take-append-le, take-append-add, drop-drop, drop-cons, drop-append-le, drop-append-add, length-take-le, set-split}
 use borrow.Rule.Slice.PartMut.{midOf, putMid, same-len-mid}
-use Rattle.blocks.specs.Blocks.{xorBytes, blockOf, withBlock, InBuffer}
+use Rattle.blocks.specs.Blocks.{xorBytes, blockOf, withBlock, InBuffer, BlocksIn}
 use Rattle.blocks.proofs.BlockLaws.{places}
 use Rattle.blocks.proofs.XorBytes.{length-xorBytes, xorBytes-comm}
 
@@ -41,6 +42,20 @@ drop-past u t m k e h =
 
 put-past : (u t v : List ℕ) (d at n : ℕ) → length u ≡ d → putMid (d + at) n (u ++ t) v ≡ u ++ putMid at n t v
 put-past u t v d at n e = rw (sym e, take-append-add u t at, drop-append-add u t at, append-assoc)
+
+-- a part put after a front that takes the place of as many elements
+pub put-next : (u v t : List ℕ) (a n : ℕ) → length u ≡ a → putMid a n (u ++ drop a t) v ≡ (u ++ v) ++ drop (a + n) t
+put-next u v t a n e = rw (take-at u (drop a t) a e, drop-at u (drop a t) a e, drop-drop n a t, append-assoc u v (drop (a + n) t))
+
+-- two parts side by side are one part
+pub mid-beside : (s : List ℕ) (at m n : ℕ) → midOf at (m + n) s ≡ midOf at m s ++ midOf (at + m) n s
+mid-beside s at m n = rw (take-add m n (drop at s), drop-drop m at s)
+
+pub put-beside : (s u v : List ℕ) (at m n : ℕ) → at ≤ length s → length u ≡ m → putMid (at + m) n (putMid at m s u) v ≡ putMid at (m + n) s (u ++ v)
+put-beside s u v at m n h e =
+    let f = take at s in
+    let l : length (f ++ u) ≡ at + m = simp (length-append, length-take) (omega arith) in
+    rw (drop-drop m at s, ← append-assoc f u (drop (at + m) s), put-next (f ++ u) v s (at + m) n l, drop-drop (m + n) at s, append-assoc f u v, append-assoc f (u ++ v), add-assoc at m n)
 
 -- ---- t filled from the front with r: its first i elements are those of r
 
@@ -179,3 +194,10 @@ put-block len s j v = rw (drop-drop len ((j - 1) * len) s)
 pub length-blockOf : {len j : ℕ} {s : List ℕ} → InBuffer len s j → length (blockOf len s j) ≡ len
 unfolding blockOf
 length-blockOf {len} {j} {s} h = length-mid s ((j - 1) * len) len (h .last)
+
+-- blocks copied from another buffer leave the length as it was
+pub length-copied : {L count a b : ℕ} {source target : List ℕ} → BlocksIn L count source a → BlocksIn L count target b
+    → length (putMid ((b - 1) * L) (count * L) target (midOf ((a - 1) * L) (count * L) source)) ≡ length target
+length-copied {L} {count} {a} {b} {source} {target} h g =
+    same-len-mid ((b - 1) * L) (count * L) target (midOf ((a - 1) * L) (count * L) source)
+    (length-mid source ((a - 1) * L) (count * L) (h .last) ∙ sym (length-mid target ((b - 1) * L) (count * L) (g .last)))

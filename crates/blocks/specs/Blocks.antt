@@ -22,3 +22,8 @@ withBlock L nodes j block = take ((j - 1) * L) nodes ++ (block ++ drop ((j - 1) 
 pub record InBuffer (L : ℕ) (nodes : List ℕ) (j : ℕ) : Type 0 where
   pub first : 1 ≤ j
   pub last : (j - 1) * L + L ≤ length nodes
+
+-- the blocks of count nodes from node j on lie in the nodes buffer
+pub record BlocksIn (L count : ℕ) (nodes : List ℕ) (j : ℕ) : Type 0 where
+  pub first : 1 ≤ j
+  pub last : (j - 1) * L + count * L ≤ length nodes

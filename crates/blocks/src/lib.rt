@@ -4,7 +4,7 @@ ghost use mathlib.Core.Logic.{_⊎_};
 ghost use Prim.Native.Nat.{ℕ, _+_, _-_, _*_, _≤_, _<_};
 ghost use lib.ListN.{length};
 ghost use borrow.Rule.Slice.PartMut.{midOf, putMid};
-ghost use Rattle.blocks.specs.Blocks.{xorBytes, blockOf, withBlock, InBuffer};
+ghost use Rattle.blocks.specs.Blocks.{xorBytes, blockOf, withBlock, InBuffer, BlocksIn};
 
 // dst becomes src, of the same length.
 pub fn copy_block(dst: &mut [u8], src: &[u8])
@@ -18,14 +18,24 @@ pub fn copy_block(dst: &mut [u8], src: &[u8])
     }
 }
 
+// `count` blocks of the target from block b on become those of the source from block a on. They lie side by side in both, so
+// that one copy takes them all.
+pub fn copy_blocks(len: usize, count: usize, source: &[u8], a: usize, target: &mut [u8], b: usize)
+    requires { ⌜ BlocksIn len count (now source) a × BlocksIn len count (now target) b ⌝ }
+    ensures { λ _. ⌜ now (target .exit) ≡ putMid ((b - 1) * len) (count * len) (now (target .entry)) (midOf ((a - 1) * len) (count * len) (now (source .entry))) ⌝ }
+{
+    let size = count * len;
+    let from = (a - 1) * len;
+    let to = (b - 1) * len;
+    copy_block(&mut target[to..to + size], &source[from..from + size]);
+}
+
 // Block b of the target becomes block a of the source.
 pub fn copy_between(len: usize, source: &[u8], a: usize, target: &mut [u8], b: usize)
     requires { ⌜ InBuffer len (now source) a × InBuffer len (now target) b ⌝ }
     ensures { λ _. ⌜ now (target .exit) ≡ withBlock len (now (target .entry)) b (blockOf len (now (source .entry)) a) ⌝ }
 {
-    let from = (a - 1) * len;
-    let to = (b - 1) * len;
-    copy_block(&mut target[to..to + len], &source[from..from + len]);
+    copy_blocks(len, 1, source, a, target, b);
 }
 
 // The XOR of two parts of 64 bytes, by value: it stays in registers on its way to its place.

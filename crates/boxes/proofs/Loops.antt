@@ -1,40 +1,29 @@
 -- How far the bodies of a list of nodes have been read into a nodes buffer, or written one after the other.
 -- Assumes nothing.
 use mathlib.Core.Path.{_≡_, refl, sym, _∙_}
-use mathlib.Core.List.{List, _++_, append-assoc}
-use Prim.Native.Nat.{ℕ, _+_, _-_, _*_, _≤_, _<_}
-use native.Mathlib.Nat.{zero-mul, suc-mul}
-use native.Mathlib.Numerals.{add-one}
+use mathlib.Core.List.{List, _++_}
+use Prim.Native.Nat.{ℕ, _+_, _-_, _*_, _≤_}
+use native.Mathlib.Nat.{zero-mul, add-mul, mul-le-mul-right}
 use native.Mathlib.Omega.{arith}
 use lib.ListN.{length, getD, drop, length-append, drop-of-length-le}
-use lib.Seq.{drop-cons, drop-drop, take-at, drop-at}
 use borrow.Rule.Slice.PartMut.{midOf, putMid}
-use Rattle.blocks.specs.Blocks.{blockOf, withBlock, InBuffer}
-use Rattle.blocks.proofs.BlockLaws.{length-withBlock}
-use Rattle.blocks.proofs.PartLaws.{filled, fill-part, fill-done, put-block, length-blockOf}
+use Rattle.blocks.specs.Blocks.{BlocksIn}
+use Rattle.blocks.proofs.PartLaws.{filled, fill-part, fill-done, put-next, length-copied}
 use Rattle.boxes.specs.Box.{boxLength}
 use Rattle.boxes.specs.Bodies.{headerOf, bodiesOf, boxOf, withBodies}
-use Rattle.boxes.specs.Places.{ListIn}
-use Rattle.boxes.proofs.Laws.{in-kept, body-fits, length-bodiesOf, body-at}
-
-one-more : (L i : ℕ) → (i + 1) * L ≡ i * L + L
-one-more L i = rw (add-one i) (suc-mul i L)
+use Rattle.boxes.specs.Places.{ListIn, Run}
+use Rattle.boxes.proofs.Laws.{in-kept, length-bodiesOf}
+use Rattle.boxes.proofs.Runs.{run-in, run-at, run-put}
 
 -- ---- the body at place i, from 0, is block i + 1 of the bodies
 
-module _ (L i : ℕ) where
-  before : i + 1 - 1 ≡ i
-  before = omega arith
+back : (i : ℕ) → i + 1 - 1 ≡ i
+back i = omega arith
 
-  body-in : (bodies : List ℕ) → i * L + L ≤ length bodies → InBuffer L bodies (i + 1)
-  body-in bodies h = record { first = omega arith; last = rw before h }
-
-  body-block : (bodies : List ℕ) → blockOf L bodies (i + 1) ≡ midOf (i * L) L bodies
-  unfolding blockOf
-  body-block bodies = rw before
-
-  put-body : (bodies body : List ℕ) → withBlock L bodies (i + 1) body ≡ putMid (i * L) L bodies body
-  put-body bodies body = rw (← put-block L bodies (i + 1) body, before)
+bodies-in : (L i r count : ℕ) (bodies : List ℕ) → length bodies ≡ count * L → i + r ≤ count → BlocksIn L r bodies (i + 1)
+bodies-in L i r count bodies e h =
+    let f : (i + r) * L ≤ count * L = mul-le-mul-right L h in
+    record { first = omega arith; last = rw (back i) (omega (arith, add-mul i r L)) }
 
 -- the first i bodies are read: the others, put into the buffer as it is now, give what all of them give
 pub record Reading (L : ℕ) (start list bodies nodes : List ℕ) (i : ℕ) : Type 0 where
@@ -48,25 +37,23 @@ pub read-none : {L : ℕ} {nodes list bodies : List ℕ} → ListIn L nodes list
 read-none {L} h e = record { inside = h; size = e; within = omega arith; kept = refl; rest = rw (zero-mul L) }
 
 module _ {L : ℕ} {start list bodies nodes : List ℕ} {i : ℕ} (w : Reading L start list bodies nodes i) where
-  pub read-node : i < length list → InBuffer L nodes (getD list i 0)
-  read-node l = in-kept nodes (w .kept) (w .inside) .each i l
+  module _ {r : ℕ} (run : Run list i r) where
+    pub read-from : BlocksIn L r bodies (i + 1)
+    read-from = bodies-in L i r (length list) bodies (w .size) (run .within)
 
-  read-fits : i < length list → i * L + L ≤ length bodies
-  read-fits l = omega (arith, body-fits L i (length list) l)
+    pub read-to : BlocksIn L r nodes (getD list i 0)
+    read-to = run-in (in-kept nodes (w .kept) (w .inside)) run
 
-  pub read-body : i < length list → InBuffer L bodies (i + 1)
-  read-body l = body-in L i bodies (read-fits l)
-
-  pub read-more : i < length list → Reading L start list bodies (withBlock L nodes (getD list i 0) (blockOf L bodies (i + 1))) (i + 1)
-  unfolding withBodies
-  read-more l =
-      record {
-        inside = w .inside;
-        size = w .size;
-        within = omega arith;
-        kept = length-withBlock L nodes (getD list i 0) (blockOf L bodies (i + 1)) (read-node l) (length-blockOf (read-body l)) ∙ w .kept;
-        rest = w .rest ∙ rw (body-block L i bodies, one-more L i, add-one i, ← drop-drop L (i * L) bodies, drop-cons list i 0 l);
-      }
+    pub read-more : Reading L start list bodies (putMid ((getD list i 0 - 1) * L) (r * L) nodes (midOf ((i + 1 - 1) * L) (r * L) bodies)) (i + r)
+    read-more =
+        let f : (i + r) * L ≤ length list * L = mul-le-mul-right L (run .within) in
+        record {
+          inside = w .inside;
+          size = w .size;
+          within = run .within;
+          kept = length-copied read-from read-to ∙ w .kept;
+          rest = rw (back i) (w .rest ∙ run-put (in-kept nodes (w .kept) (w .inside)) run bodies (omega arith) r (omega arith));
+        }
 
   pub read-done : length list ≤ i → nodes ≡ withBodies L start list bodies
   unfolding withBodies
@@ -84,25 +71,26 @@ pub write-none : {L : ℕ} {list nodes out : List ℕ} → ListIn L nodes list �
 write-none {L} h e = record { inside = h; size = e; within = omega arith; kept = refl; is = rw (zero-mul L) }
 
 module _ {L : ℕ} {list nodes start out : List ℕ} {i : ℕ} (w : Writing L list nodes start out i) where
-  write-fits : i < length list → i * L + L ≤ length out
-  write-fits l = omega (arith, body-fits L i (length list) l)
+  module _ {r : ℕ} (run : Run list i r) where
+    pub write-from : BlocksIn L r nodes (getD list i 0)
+    write-from = run-in (w .inside) run
 
-  pub write-body : i < length list → InBuffer L out (i + 1)
-  write-body l = body-in L i out (write-fits l)
+    pub write-to : BlocksIn L r out (i + 1)
+    write-to = bodies-in L i r (length list) out (w .kept ∙ w .size) (run .within)
 
-  pub write-more : i < length list → Writing L list nodes start (withBlock L out (i + 1) (blockOf L nodes (getD list i 0))) (i + 1)
-  write-more l =
-      let r = bodiesOf L nodes list in
-      let f = write-fits l in
-      record {
-        inside = w .inside;
-        size = w .size;
-        within = omega arith;
-        kept = length-withBlock L out (i + 1) (blockOf L nodes (getD list i 0)) (write-body l) (length-blockOf (w .inside .each i l)) ∙ w .kept;
-        is =
-            rw (put-body L i out (blockOf L nodes (getD list i 0)), w .is, ← body-at L nodes list i (w .inside) l, one-more L i)
-            (fill-part r start (i * L) (i * L) L (omega arith) (omega arith) (omega (arith, length-bodiesOf L nodes list (w .inside))));
-      }
+    pub write-more : Writing L list nodes start (putMid ((i + 1 - 1) * L) (r * L) out (midOf ((getD list i 0 - 1) * L) (r * L) nodes)) (i + r)
+    write-more =
+        let b = bodiesOf L nodes list in
+        let e = length-bodiesOf L nodes list (w .inside) in
+        let f : (i + r) * L ≤ length list * L = mul-le-mul-right L (run .within) in
+        let s = add-mul i r L in
+        record {
+          inside = w .inside;
+          size = w .size;
+          within = run .within;
+          kept = length-copied write-from write-to ∙ w .kept;
+          is = rw (back i, ← run-at (w .inside) run r (omega arith), w .is, s) (fill-part b start (i * L) (i * L) (r * L) (omega arith) (omega arith) (omega arith));
+        }
 
   pub write-done : length list ≤ i → out ≡ bodiesOf L nodes list
   write-done l =
@@ -110,9 +98,6 @@ module _ {L : ℕ} {list nodes start out : List ℕ} {i : ℕ} (w : Writing L li
       w .is ∙ rw e (fill-done (bodiesOf L nodes list) start (length list * L) (omega (arith, length-bodiesOf L nodes list (w .inside))) (omega arith))
 
 -- ---- the parts of a box, put one after the other
-
-pub put-next : (u v t : List ℕ) (a n : ℕ) → length u ≡ a → putMid a n (u ++ drop a t) v ≡ (u ++ v) ++ drop (a + n) t
-put-next u v t a n e = rw (take-at u (drop a t) a e, drop-at u (drop a t) a e, drop-drop n a t, append-assoc u v (drop (a + n) t))
 
 pub box-written : (family k L : ℕ) (list nodes out : List ℕ)
     → putMid (8 + length list) (length list * L) (putMid 8 (length list) (headerOf family k L (length list) ++ drop 8 out) list) (bodiesOf L nodes list)

@@ -7,7 +7,7 @@ use lib.Dec.{eqb, ltb}
 use Rattle.families.specs.Families.{familyOf, nodeCount}
 use Rattle.checks.specs.Checks.{Check, _gives_, firstMet}
 use Rattle.checks.specs.Parameters.{outside, parameterChecks}
-use Rattle.lists.specs.Lists.{someOutside, rises, placeIn}
+use Rattle.lists.specs.Lists.{listChecks, placeIn}
 
 -- byte 0: family. Byte 1: k. Bytes 2 to 3: L, the low byte first. Byte 4: E, the number of nodes held
 abbrev pub familyIn : List ℕ → ℕ
@@ -50,9 +50,7 @@ boxChecks bytes =
     ++ ((not (zerosIn bytes) gives 8)
     ∷ (not (eqb (length bytes) (boxLength (heldIn bytes) (lengthIn bytes))) gives 7)
     ∷ (ltb (nodesIn bytes) (heldIn bytes) gives 9)
-    ∷ (someOutside (nodesIn bytes) (namesIn bytes) gives 4)
-    ∷ (not (rises (namesIn bytes)) gives 5)
-    ∷ []))
+    ∷ listChecks (nodesIn bytes) (namesIn bytes)))
 
 -- for a body: the box's checks, then 4 and 12
 unfoldable pub bodyChecks : List ℕ → ℕ → List Check

@@ -1,5 +1,6 @@
--- The nodes of a list that a nodes buffer has.
-use Prim.Native.Nat.{ℕ, _<_}
+-- The nodes of a list: that a nodes buffer has them, and runs of them.
+use mathlib.Core.Path.{_≡_}
+use Prim.Native.Nat.{ℕ, _+_, _≤_, _<_}
 use mathlib.Core.List.{List}
 use lib.ListN.{length, getD}
 use Rattle.blocks.specs.Blocks.{InBuffer}
@@ -7,3 +8,9 @@ use Rattle.blocks.specs.Blocks.{InBuffer}
 -- the block of every node of the list lies in the nodes buffer
 pub record ListIn (L : ℕ) (nodes list : List ℕ) : Type 0 where
   pub each : (i : ℕ) → i < length list → InBuffer L nodes (getD list i 0)
+
+-- the r numbers from place i on follow each other without a gap
+pub record Run (list : List ℕ) (i r : ℕ) : Type 0 where
+  pub some : 1 ≤ r
+  pub within : i + r ≤ length list
+  pub each : (t : ℕ) → t < r → getD list (i + t) 0 ≡ getD list i 0 + t

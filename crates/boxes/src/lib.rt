@@ -8,7 +8,7 @@ ghost use Rattle.checks.specs.Checks.{firstMet};
 ghost use Rattle.checks.specs.Parameters.{parameterChecks};
 ghost use Rattle.boxes.specs.Box.{familyIn, kIn, lengthIn, heldIn, zerosIn, namesIn, bodiesIn, nodesIn, boxLength, boxChecks, bodyChecks, bodyStart, bodyOf};
 ghost use Rattle.boxes.specs.Bodies.{headerOf, bodiesOf, boxOf, withBodies};
-ghost use Rattle.boxes.specs.Places.{ListIn};
+ghost use Rattle.boxes.specs.Places.{ListIn, Run};
 ghost use Rattle.boxes.specs.Names.{nameChecks};
 
 // A byte as a number.
@@ -99,13 +99,7 @@ fn names_refusal(n: usize, names: &[u8]) -> u8
     if n < names.len() {
         return 9;
     }
-    if lists::some_outside(n, names) {
-        return 4;
-    }
-    if !lists::is_rising(names) {
-        return 5;
-    }
-    0
+    lists::list_refusal(n, names)
 }
 
 // The first check that is met, or 0, of a box of 8 bytes or more whose family, k and L are in range.
@@ -181,7 +175,23 @@ pub fn body(bytes: &[u8], j: usize) -> &[u8]
     &bytes[from..from + len]
 }
 
-// The bodies of a list of nodes become those nodes' blocks; the other places keep their bytes.
+// How many numbers of a list, from place i on, follow each other without a gap.
+fn run_length(list: &[u8], i: usize) -> usize
+    requires { ⌜ i < length (now list) ⌝ }
+    ensures { λ r. ⌜ Run (now (list .entry)) i r ⌝ }
+{
+    let mut run: usize = 1;
+    while i + run < list.len() {
+        if wide(list[i + run]) != wide(list[i]) + run {
+            return run;
+        }
+        run += 1;
+    }
+    run
+}
+
+// The bodies of a list of nodes become those nodes' blocks; the other places keep their bytes. Nodes whose numbers follow each
+// other lie side by side in a box and in a nodes buffer: each run of them is one copy.
 pub fn read_bodies(len: usize, nodes: &mut [u8], list: &[u8], bodies: &[u8])
     requires { ⌜ ListIn len (now nodes) (now list) ⌝ }
     requires { ⌜ length (now bodies) ≡ length (now list) * len ⌝ }
@@ -189,8 +199,9 @@ pub fn read_bodies(len: usize, nodes: &mut [u8], list: &[u8], bodies: &[u8])
 {
     let mut i: usize = 0;
     while i < list.len() {
-        blocks::copy_between(len, bodies, i + 1, nodes, wide(list[i]));
-        i += 1;
+        let run = run_length(list, i);
+        blocks::copy_blocks(len, run, bodies, i + 1, nodes, wide(list[i]));
+        i += run;
     }
 }
 
@@ -210,7 +221,7 @@ fn write_header(family: usize, k: usize, len: usize, count: usize, out: &mut [u8
     out[7] = 0;
 }
 
-// The bodies of a list of nodes, in that order, fill `out`.
+// The bodies of a list of nodes, in that order, fill `out`, a run of them at a time.
 fn write_bodies(len: usize, list: &[u8], nodes: &[u8], out: &mut [u8])
     requires { ⌜ ListIn len (now nodes) (now list) ⌝ }
     requires { ⌜ length (now out) ≡ length (now list) * len ⌝ }
@@ -219,8 +230,9 @@ fn write_bodies(len: usize, list: &[u8], nodes: &[u8], out: &mut [u8])
     let count = list.len();
     let mut i: usize = 0;
     while i < count {
-        blocks::copy_between(len, nodes, wide(list[i]), out, i + 1);
-        i += 1;
+        let run = run_length(list, i);
+        blocks::copy_blocks(len, run, nodes, wide(list[i]), out, i + 1);
+        i += run;
     }
 }
 

@@ -12,9 +12,15 @@ use lib.Dec.{ltb, eqb, leb·suc-suc}
 use lib.ListN.{length, getD, set, length-set, getD-replicate}
 use lib.Seq.{getD-set-same, getD-set-other, ext-getD}
 use Rattle.base.proofs.Tests.{and-left, and-right, and-both, or-neither, is-false}
-use Rattle.checks.proofs.Laws.{inside, outside-no}
+use Rattle.checks.specs.Checks.{firstMet}
+use Rattle.checks.specs.Claims.{NoneMet}
+use Rattle.checks.proofs.Laws.{accepted, inside, outside-no}
 use Rattle.checks.specs.Parameters.{outside}
-use Rattle.lists.specs.Lists.{someOutside, rises, placeIn, noneLive, isLive, setLive, someMissing, someLive, liveOutside, liveFrom, liveNodes}
+use Rattle.lists.specs.Lists.{someOutside, rises, listChecks, placeIn, noneLive, isLive, setLive, someMissing, someLive, liveOutside, liveFrom, liveNodes}
+
+-- a list that is not refused meets neither 4 nor 5
+pub list-accepted : (n : ℕ) (list : List ℕ) → firstMet (listChecks n list) ≡ 0 → NoneMet (listChecks n list)
+list-accepted n list e = accepted (listChecks n list) refl e
 
 -- ---- numbers outside 1 to n
 

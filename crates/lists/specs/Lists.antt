@@ -4,6 +4,7 @@ use mathlib.Core.Bool.{Bool, true, false, cond, not, _&&_, _||_}
 use mathlib.Core.List.{List, [], _∷_}
 use lib.ListN.{getD, set, replicate}
 use lib.Dec.{eqb, ltb}
+use Rattle.checks.specs.Checks.{Check, _gives_}
 use Rattle.checks.specs.Parameters.{outside}
 
 -- a node number of the list is 0 or above n
@@ -16,6 +17,10 @@ unfoldable pub rises : List ℕ → Bool
 rises [] = true
 rises (i ∷ []) = true
 rises (i ∷ j ∷ list) = ltb i j && rises (j ∷ list)
+
+-- the checks of a node list: 4 over the whole list, 5
+abbrev pub listChecks : ℕ → List ℕ → List Check
+listChecks n list = (someOutside n list gives 4) ∷ (not (rises list) gives 5) ∷ []
 
 -- the place of a number in a list, from 0; past the end where it is not there
 unfoldable pub placeIn : List ℕ → ℕ → ℕ

@@ -3,7 +3,8 @@ ghost use mathlib.Core.Path.{_≡_};
 ghost use mathlib.Core.List.{_++_};
 ghost use Prim.Native.Nat.{_-_, _≤_};
 ghost use lib.ListN.{length, replicate};
-ghost use Rattle.lists.specs.Lists.{someOutside, rises, placeIn, noneLive, setLive, someMissing, liveOutside, liveNodes};
+ghost use Rattle.checks.specs.Checks.{firstMet};
+ghost use Rattle.lists.specs.Lists.{someOutside, rises, listChecks, placeIn, noneLive, setLive, someMissing, liveOutside, liveNodes};
 
 // A byte as a number.
 fn wide(byte: u8) -> usize
@@ -42,6 +43,19 @@ pub fn is_rising(list: &[u8]) -> bool
         i += 1;
     }
     true
+}
+
+// 4 or 5 for a node list, in this order; else 0.
+pub fn list_refusal(n: usize, list: &[u8]) -> u8
+    ensures { λ r. ⌜ r ≡ firstMet (listChecks n (now (list .entry))) ⌝ }
+{
+    if some_outside(n, list) {
+        return 4;
+    }
+    if !is_rising(list) {
+        return 5;
+    }
+    0
 }
 
 // The place of a node in a list, from 0, or the list's length where it is not there.

@@ -1,7 +1,7 @@
 -- What check, read and write answer, check by check, and what that leaves in the buffers.
 -- Assumes nothing.
 use mathlib.Core.Path.{_≡_, refl, sym, ap, _∙_, subst}
-use mathlib.Core.Bool.{Bool, true, false, cond, not}
+use mathlib.Core.Bool.{Bool, true, false, cond}
 use mathlib.Core.List.{List, [], _∷_, _++_, append-assoc}
 use Prim.Native.Nat.{ℕ, zero, suc, _+_, _*_, _≤_, _<_}
 use native.Mathlib.Omega.{arith}
@@ -11,7 +11,8 @@ use lib.ListN.{length, drop}
 use Rattle.checks.specs.Checks.{Check, _gives_, firstMet}
 use Rattle.checks.specs.Claims.{NoneMet}
 use Rattle.checks.proofs.Laws.{accepted, numbered, none-append, some-append}
-use Rattle.lists.specs.Lists.{someOutside, rises, someMissing, liveNodes}
+use Rattle.lists.specs.Lists.{someOutside, rises, listChecks, someMissing, liveNodes}
+use Rattle.lists.proofs.Laws.{list-accepted}
 use Rattle.boxes.specs.Box.{lengthIn, heldIn, namesIn, bodiesIn, nodesIn, boxLength, boxChecks}
 use Rattle.boxes.specs.Bodies.{boxOf, withBodies}
 use Rattle.boxes.proofs.Answers.{box-none}
@@ -60,16 +61,16 @@ module _ (bytes nodes : List ℕ) where
 
 module _ (s : Session) (nodes list out : List ℕ) where
   abbrev lists : List Check
-  lists = (someOutside (nodesOf s) list gives 4) ∷ (not (rises list) gives 5) ∷ (someMissing (s .live) list gives 12) ∷ []
+  lists = listChecks (nodesOf s) list ++ ((someMissing (s .live) list gives 12) ∷ [])
 
   abbrev room : List Check
   room = (ltb (length out) (writtenLength s list) gives 6) ∷ []
 
   -- the checks before that of the destination
-  abbrev pub listChecks : List Check
-  listChecks = nodesChecks s (length nodes) ++ lists
+  abbrev pub earlier : List Check
+  earlier = nodesChecks s (length nodes) ++ lists
 
-  split : writeChecks s nodes list out ≡ listChecks ++ room
+  split : writeChecks s nodes list out ≡ earlier ++ room
   unfolding writeChecks
   split = sym (append-assoc (nodesChecks s (length nodes)) lists room)
 
@@ -81,12 +82,12 @@ module _ (s : Session) (nodes list out : List ℕ) where
   unfolding written outWritten
   refused-write number e h = record { answer = simp (e, ne-eqb number 0 h); kept = simp (e, ne-eqb number 0 h) }
 
-  pub write-by-list : (number : ℕ) → number ≡ firstMet listChecks → (number ≡ 0 → ⊥) → WriteRefused number
-  write-by-list number e h = refused-write number (ap firstMet split ∙ some-append listChecks room (λ z. h (e ∙ z)) ∙ sym e) h
+  pub write-by-list : (number : ℕ) → number ≡ firstMet earlier → (number ≡ 0 → ⊥) → WriteRefused number
+  write-by-list number e h = refused-write number (ap firstMet split ∙ some-append earlier room (λ z. h (e ∙ z)) ∙ sym e) h
 
-  pub list-none : firstMet listChecks ≡ 0 → NoneMet listChecks
+  pub list-none : firstMet earlier ≡ 0 → NoneMet earlier
   unfolding nodesChecks
-  list-none e = accepted listChecks refl e
+  list-none e = accepted earlier refl e
 
   -- what is known once 13, 6, 4, 5 and 12 are passed
   pub record Listed : Type 0 where
@@ -95,15 +96,15 @@ module _ (s : Session) (nodes list out : List ℕ) where
     pub rising : rises list ≡ true
     pub live : someMissing (s .live) list ≡ false
 
-  pub list-passed : firstMet listChecks ≡ 0 → Listed
+  pub list-passed : firstMet earlier ≡ 0 → Listed
   unfolding nodesChecks firstMet
   list-passed e =
       let n = list-none e in
       record { sizes = simp (n .0, n .1 .0); inside = n .1 .1 .0; rising = not-false _ (n .1 .1 .1 .0); live = n .1 .1 .1 .1 .0 }
 
-  module _ (e : firstMet listChecks ≡ 0) where
+  module _ (e : firstMet earlier ≡ 0) where
     to-room : firstMet (writeChecks s nodes list out) ≡ firstMet room
-    to-room = ap firstMet split ∙ none-append listChecks room (list-none e)
+    to-room = ap firstMet split ∙ none-append earlier room (list-none e)
 
     -- with room or without, for the nodes that the list stands for
     pub record WriteDone (names : List ℕ) : Type 0 where
@@ -132,28 +133,30 @@ listed-all s (j ∷ list) h = absurd (omega arith)
 
 -- the list's own checks, one by one
 module _ (s : Session) (length : ℕ) (list : List ℕ) where
+  abbrev missing : List Check
+  missing = (someMissing (s .live) list gives 12) ∷ []
+
   abbrev checks : List Check
-  checks = nodesChecks s length ++ ((someOutside (nodesOf s) list gives 4) ∷ (not (rises list) gives 5) ∷ (someMissing (s .live) list gives 12) ∷ [])
+  checks = nodesChecks s length ++ (listChecks (nodesOf s) list ++ missing)
 
   pub list-stops : (firstMet (nodesChecks s length) ≡ 0 → ⊥) → firstMet checks ≡ firstMet (nodesChecks s length)
   list-stops h = some-append (nodesChecks s length) _ h
 
   module _ (e : firstMet (nodesChecks s length) ≡ 0) where
-    on : firstMet checks ≡ firstMet ((someOutside (nodesOf s) list gives 4) ∷ (not (rises list) gives 5) ∷ (someMissing (s .live) list gives 12) ∷ [])
+    on : firstMet checks ≡ firstMet (listChecks (nodesOf s) list ++ missing)
     on = none-append (nodesChecks s length) _ (nodes-none s length e)
 
-    pub list-4 : someOutside (nodesOf s) list ≡ true → firstMet checks ≡ 4
-    unfolding firstMet
-    list-4 o = on ∙ rw o
+    pub list-numbers : (firstMet (listChecks (nodesOf s) list) ≡ 0 → ⊥) → firstMet checks ≡ firstMet (listChecks (nodesOf s) list)
+    list-numbers h = on ∙ some-append (listChecks (nodesOf s) list) missing h
 
-    pub list-5 : someOutside (nodesOf s) list ≡ false → rises list ≡ false → firstMet checks ≡ 5
-    unfolding firstMet
-    list-5 o r = on ∙ simp (o, r)
+    module _ (g : firstMet (listChecks (nodesOf s) list) ≡ 0) where
+      past : firstMet checks ≡ firstMet missing
+      past = on ∙ none-append (listChecks (nodesOf s) list) missing (list-accepted (nodesOf s) list g)
 
-    pub list-12 : someOutside (nodesOf s) list ≡ false → rises list ≡ true → someMissing (s .live) list ≡ true → firstMet checks ≡ 12
-    unfolding firstMet
-    list-12 o r m = on ∙ simp (o, r, m)
+      pub list-12 : someMissing (s .live) list ≡ true → firstMet checks ≡ 12
+      unfolding firstMet
+      list-12 m = past ∙ rw m
 
-    pub list-0 : someOutside (nodesOf s) list ≡ false → rises list ≡ true → someMissing (s .live) list ≡ false → firstMet checks ≡ 0
-    unfolding firstMet
-    list-0 o r m = on ∙ simp (o, r, m)
+      pub list-0 : someMissing (s .live) list ≡ false → firstMet checks ≡ 0
+      unfolding firstMet
+      list-0 m = past ∙ rw m

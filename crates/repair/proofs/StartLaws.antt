@@ -14,7 +14,7 @@ use Rattle.checks.specs.Checks.{Check, _gives_, firstMet}
 use Rattle.checks.specs.Claims.{NoneMet}
 use Rattle.checks.specs.Parameters.{parameterChecks}
 use Rattle.checks.proofs.Laws.{InRange, in-range, accepted, parameters-none, none-append, some-append}
-use Rattle.lists.specs.Lists.{someOutside, rises, liveOutside}
+use Rattle.lists.specs.Lists.{someOutside, rises, listChecks, liveOutside}
 use Rattle.repair.specs.declared.Session.{Session}
 use Rattle.repair.specs.Session.{startChecks, nodesOf, noStart, nodesChecks}
 
@@ -26,17 +26,13 @@ module _ (family k L : ℕ) (list : List ℕ) where
   start-stops h = some-append (parameterChecks family k L) _ h
 
   module _ (e : firstMet (parameterChecks family k L) ≡ 0) where
-    pub start-4 : someOutside (nodeCount (familyOf family) k) list ≡ true → firstMet (startChecks family k L list) ≡ 4
-    unfolding startChecks firstMet
-    start-4 o = none-append (parameterChecks family k L) _ (parameters-none family k L e) ∙ rw o
-
-    pub start-5 : someOutside (nodeCount (familyOf family) k) list ≡ false → rises list ≡ false → firstMet (startChecks family k L list) ≡ 5
-    unfolding startChecks firstMet
-    start-5 o r = none-append (parameterChecks family k L) _ (parameters-none family k L e) ∙ simp (o, r)
+    pub start-on : firstMet (startChecks family k L list) ≡ firstMet (listChecks (nodeCount (familyOf family) k) list)
+    unfolding startChecks
+    start-on = none-append (parameterChecks family k L) _ (parameters-none family k L e)
 
     pub start-0 : someOutside (nodeCount (familyOf family) k) list ≡ false → rises list ≡ true → firstMet (startChecks family k L list) ≡ 0
-    unfolding startChecks firstMet
-    start-0 o r = none-append (parameterChecks family k L) _ (parameters-none family k L e) ∙ simp (o, r)
+    unfolding firstMet
+    start-0 o r = start-on ∙ simp (o, r)
 
 -- ---- 13 and 6
 

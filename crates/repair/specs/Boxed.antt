@@ -5,7 +5,7 @@ use mathlib.Core.List.{List, [], _∷_, _++_}
 use lib.ListN.{length, drop}
 use lib.Dec.{eqb, ltb}
 use Rattle.checks.specs.Checks.{Check, _gives_, firstMet}
-use Rattle.lists.specs.Lists.{someOutside, rises, someMissing, liveNodes}
+use Rattle.lists.specs.Lists.{listChecks, someMissing, liveNodes}
 use Rattle.boxes.specs.Box.{familyIn, kIn, lengthIn, namesIn, bodiesIn, nodesIn, boxLength, boxChecks}
 use Rattle.boxes.specs.Bodies.{boxOf, withBodies}
 use Rattle.repair.specs.declared.Session.{Session}
@@ -50,11 +50,10 @@ writtenLength s list = boxLength (length (listed s list)) (s .len)
 unfoldable pub writeChecks : Session → List ℕ → List ℕ → List ℕ → List Check
 writeChecks s nodes list out =
     nodesChecks s (length nodes)
-    ++ ((someOutside (nodesOf s) list gives 4)
-    ∷ (not (rises list) gives 5)
-    ∷ (someMissing (s .live) list gives 12)
+    ++ (listChecks (nodesOf s) list
+    ++ ((someMissing (s .live) list gives 12)
     ∷ (ltb (length out) (writtenLength s list) gives 6)
-    ∷ [])
+    ∷ []))
 
 -- what writing gives: the length, or the refusal's number; the session stays
 unfoldable pub written : Session → List ℕ → List ℕ → List ℕ → Written

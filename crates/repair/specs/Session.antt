@@ -6,7 +6,7 @@ use lib.Dec.{eqb}
 use Rattle.families.specs.Families.{familyOf, nodeCount}
 use Rattle.checks.specs.Checks.{Check, _gives_, firstMet}
 use Rattle.checks.specs.Parameters.{parameterChecks}
-use Rattle.lists.specs.Lists.{someOutside, rises, noneLive, setLive, liveOutside}
+use Rattle.lists.specs.Lists.{listChecks, noneLive, setLive, liveOutside}
 use Rattle.repair.specs.declared.Session.{Session}
 use Rattle.repair.specs.declared.Started.{Started}
 
@@ -20,11 +20,7 @@ refusedStart number = record { refusal = number; session = record { family = 0; 
 
 -- Start: 1, 2, 3, 4 over the whole list, 5
 unfoldable pub startChecks : ℕ → ℕ → ℕ → List ℕ → List Check
-startChecks family k L list =
-    parameterChecks family k L
-    ++ ((someOutside (nodeCount (familyOf family) k) list gives 4)
-    ∷ (not (rises list) gives 5)
-    ∷ [])
+startChecks family k L list = parameterChecks family k L ++ listChecks (nodeCount (familyOf family) k) list
 
 -- what a start gives
 unfoldable pub started : ℕ → ℕ → ℕ → List ℕ → Started

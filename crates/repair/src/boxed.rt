@@ -4,13 +4,13 @@ use crate::Started;
 use crate::Written;
 use crate::start::refused;
 ghost use mathlib.Core.Path.{_≡_};
-ghost use mathlib.Core.Bool.{true, false, cond, not};
+ghost use mathlib.Core.Bool.{true, false, cond};
 ghost use mathlib.Core.List.{[], _∷_, _++_};
 ghost use Prim.Native.Nat.{ℕ, _*_, _≤_};
 ghost use lib.ListN.{length, drop};
 ghost use lib.Dec.{ltb};
 ghost use Rattle.checks.specs.Checks.{firstMet, _gives_};
-ghost use Rattle.lists.specs.Lists.{someOutside, rises, someMissing, liveNodes};
+ghost use Rattle.lists.specs.Lists.{someOutside, rises, listChecks, someMissing, liveNodes};
 ghost use Rattle.boxes.specs.Box.{boxLength, boxChecks};
 ghost use Rattle.boxes.specs.Bodies.{boxOf};
 ghost use Rattle.repair.specs.Session.{nodesOf, noStart, nodesChecks};
@@ -70,18 +70,16 @@ impl Session {
 
     // 13, 6 for the nodes, 4, 5 or 12, or 0.
     fn list_refusal(self, nodes: usize, list: &[u8]) -> u8
-        ensures { λ r. ⌜ r ≡ firstMet (nodesChecks self nodes ++ ((someOutside (nodesOf self) (now (list .entry)) gives 4) ∷ (not (rises (now (list .entry))) gives 5) ∷ (someMissing (self .live) (now (list .entry)) gives 12) ∷ [])) ⌝ }
+        ensures { λ r. ⌜ r ≡ firstMet (nodesChecks self nodes ++ (listChecks (nodesOf self) (now (list .entry)) ++ ((someMissing (self .live) (now (list .entry)) gives 12) ∷ []))) ⌝ }
     {
         let bad = self.nodes_refusal(nodes);
         if bad != 0 {
             return bad;
         }
         let n = families::node_count_of(self.family, self.k);
-        if lists::some_outside(n, list) {
-            return 4;
-        }
-        if !lists::is_rising(list) {
-            return 5;
+        let bad_list = lists::list_refusal(n, list);
+        if bad_list != 0 {
+            return bad_list;
         }
         let live = self.live;
         if lists::some_missing(&live, list) {

@@ -28,14 +28,7 @@ fn start_refusal(family: usize, k: usize, len: usize, list: &[u8]) -> u8
     if bad != 0 {
         return bad;
     }
-    let n = families::node_count_of(family, k);
-    if lists::some_outside(n, list) {
-        return 4;
-    }
-    if lists::is_rising(list) {
-        return 0;
-    }
-    5
+    lists::list_refusal(families::node_count_of(family, k), list)
 }
 
 impl Session {

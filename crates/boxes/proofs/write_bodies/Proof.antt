@@ -1,8 +1,8 @@
--- `boxes::write_bodies` meets its contract: before turn i `out` begins with the first i bodies.
+-- `boxes::write_bodies` meets its contract: before each turn `out` begins with the first i bodies.
 -- Assumes nothing.
 use Prim.Native.Nat.{_-_}
 use lib.ListN.{length}
-use Rattle.boxes.proofs.Loops.{Writing, write-none, write-body, write-more, write-done}
+use Rattle.boxes.proofs.Loops.{Writing, write-none, write-from, write-to, write-more, write-done}
 use borrow.Author.Needs.{needs}
 use native.Mathlib.Omega.{arith}
 use Rattle.boxes.proofs.write_bodies.Statement.{statement}
@@ -17,15 +17,17 @@ abbrev μ-loop : tie.MeasureT-loop
 loop-holds : tie.Need-loop-holds Inv-loop μ-loop
 loop-holds c = let p = c .before .before .before .pre in write-none (p .0) (p .1)
 
-copy-between-requires : tie.Need-copy-between-requires Inv-loop μ-loop
-copy-between-requires c κs =
-    let l = c .before .before .before .before .loop in
-    (rw (c .before .wide .ensures) (l .inv .inside .each (l .i) (omega arith)), write-body (l .inv) (omega arith))
+copy-blocks-requires : tie.Need-copy-blocks-requires Inv-loop μ-loop
+copy-blocks-requires c κs =
+    let b = c .before .before .before in
+    let w = b .before .before .loop .inv in
+    let run = b .run-length .ensures in
+    (rw (c .before .wide .ensures) (write-from w run), write-to w run)
 
 loop-again : tie.Need-loop-again Inv-loop μ-loop
 loop-again c =
-    let l = c .before .before .before .before .before .before .before .loop .inv in
-    rw (c .before .before .copy-between .ensures, c .before .before .before .before .wide .ensures) (write-more l (omega arith))
+    let b = c .before .before .before .before .before .before in
+    rw (c .before .before .copy-blocks .ensures, c .before .before .before .before .wide .ensures) (write-more (b .before .before .loop .inv) (b .run-length .ensures))
 
 returns : tie.Need-returns Inv-loop μ-loop
 returns c = write-done (c .before .loop .inv) (omega arith)
@@ -37,10 +39,11 @@ write-bodies-spec =
     Inv-loop
     μ-loop
     loop-holds
+    (λ c κs. search needs)
     (λ c. search needs)
     (λ c κs. search needs)
     (λ c. search needs)
-    copy-between-requires
+    copy-blocks-requires
     (λ c. search needs)
     (λ c. search needs)
     loop-again

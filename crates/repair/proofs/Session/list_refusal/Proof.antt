@@ -1,14 +1,12 @@
 -- `repair::Session::list_refusal` meets its contract: its tests are the list's conditions, in the list's order.
 -- Assumes nothing.
 use mathlib.Core.Path.{_≡_, sym, _∙_, ap}
-use mathlib.Core.Bool.{true, false}
 use Prim.Native.Nat.{ℕ}
-use borrow.Author.Tests.{not-true, not-false}
 use Rattle.checks.specs.Checks.{firstMet}
-use Rattle.lists.specs.Lists.{someOutside, rises}
+use Rattle.lists.specs.Lists.{listChecks}
 use Rattle.repair.specs.Session.{nodesOf, nodesChecks}
 use Rattle.repair.proofs.StartLaws.{known, sized}
-use Rattle.repair.proofs.BoxedLaws.{list-stops, list-4, list-5, list-12, list-0}
+use Rattle.repair.proofs.BoxedLaws.{list-stops, list-numbers, list-12, list-0}
 use borrow.Author.Needs.{needs}
 use Rattle.repair.proofs.Session.list_refusal.Statement.{statement}
 use Rattle.repair.proofs.Session.list_refusal.Tie as tie
@@ -16,14 +14,9 @@ use Rattle.repair.proofs.Session.list_refusal.Tie as tie
 passed : (c : tie.Else1) → firstMet (nodesChecks (c .before .before .before .args .self) (c .before .before .before .args .nodes)) ≡ 0
 passed c = sym (c .before .nodes-refusal .ensures) ∙ c .if1 .left
 
-outside-is : (c : tie.After-some-outside) → c .some-outside .result ≡ someOutside (nodesOf (c .before .before .before .before .before .args .self)) (c .before .before .before .before .before .args .list .now)
-outside-is c = c .some-outside .ensures ∙ ap (λ (n : ℕ). someOutside n (c .before .before .before .before .before .args .list .now)) (c .before .node-count-of .ensures)
-
-inside : (c : tie.Else2) → someOutside (nodesOf (c .before .before .before .before .before .before .args .self)) (c .before .before .before .before .before .before .args .list .now) ≡ false
-inside c = sym (outside-is (c .before)) ∙ c .if2 .left
-
-rising : (c : tie.Else3) → rises (c .before .before .before .before .before .before .before .before .args .list .now) ≡ true
-rising c = sym (c .before .is-rising .ensures) ∙ not-false _ (c .if3 .left)
+-- 4, 5 or neither, for n of the session
+numbers : (c : tie.After-list-refusal) → c .list-refusal .result ≡ firstMet (listChecks (nodesOf (c .before .before .before .before .before .args .self)) (c .before .before .before .before .before .args .list .now))
+numbers c = c .list-refusal .ensures ∙ ap (λ (n : ℕ). firstMet (listChecks n (c .before .before .before .before .before .args .list .now))) (c .before .node-count-of .ensures)
 
 returns : tie.Need-returns
 returns c =
@@ -37,22 +30,20 @@ node-count-of-requires c κs = known _ (sized _ _ (passed c) .starts) .range .bl
 returns-2 : tie.Need-returns-2
 returns-2 c =
     let g = c .before .before .before .before .before .before .args in
-    sym (list-4 (g .self) (g .nodes) (g .list .now) (passed (c .before .before .before)) (sym (outside-is (c .before)) ∙ c .if2 .taken))
+    let e = numbers (c .before) in
+    e ∙ sym (list-numbers (g .self) (g .nodes) (g .list .now) (passed (c .before .before .before)) (rw e at (c .if2 .taken)))
 
 returns-3 : tie.Need-returns-3
 returns-3 c =
-    let g = c .before .before .before .before .before .before .before .before .args in
-    sym (list-5 (g .self) (g .nodes) (g .list .now) (passed (c .before .before .before .before .before)) (inside (c .before .before)) (sym (c .before .is-rising .ensures) ∙ not-true _ (c .if3 .taken)))
+    let b = c .before .before .before .before in
+    let g = b .before .before .before .before .before .before .args in
+    sym (list-12 (g .self) (g .nodes) (g .list .now) (passed (b .before .before .before)) (sym (numbers (b .before)) ∙ b .if2 .left) (sym (c .before .some-missing .ensures) ∙ c .if3 .taken))
 
 returns-4 : tie.Need-returns-4
 returns-4 c =
-    let g = c .before .before .before .before .before .before .before .before .before .before .before .before .args in
-    sym (list-12 (g .self) (g .nodes) (g .list .now) (passed (c .before .before .before .before .before .before .before .before .before)) (inside (c .before .before .before .before .before .before)) (rising (c .before .before .before .before)) (sym (c .before .some-missing .ensures) ∙ c .if4 .taken))
-
-returns-5 : tie.Need-returns-5
-returns-5 c =
-    let g = c .before .before .before .before .before .before .before .before .before .before .before .before .args in
-    sym (list-0 (g .self) (g .nodes) (g .list .now) (passed (c .before .before .before .before .before .before .before .before .before)) (inside (c .before .before .before .before .before .before)) (rising (c .before .before .before .before)) (sym (c .before .some-missing .ensures) ∙ c .if4 .left))
+    let b = c .before .before .before .before in
+    let g = b .before .before .before .before .before .before .args in
+    sym (list-0 (g .self) (g .nodes) (g .list .now) (passed (b .before .before .before)) (sym (numbers (b .before)) ∙ b .if2 .left) (sym (c .before .some-missing .ensures) ∙ c .if3 .left))
 
 pub list-refusal-spec : {M : Type 1} → statement M
 list-refusal-spec =
@@ -65,6 +56,4 @@ list-refusal-spec =
     returns-2
     (λ c κs. search needs)
     returns-3
-    (λ c κs. search needs)
-    returns-4
-    returns-5)
+    returns-4)

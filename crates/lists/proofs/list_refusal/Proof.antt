@@ -1,0 +1,43 @@
+-- `lists::list_refusal` meets its contract: its tests are the list's conditions, in the list's order.
+-- Assumes nothing.
+use mathlib.Core.Path.{_≡_, sym, _∙_}
+use mathlib.Core.Bool.{true, false}
+use borrow.Author.Tests.{not-true, not-false}
+use borrow.Author.Needs.{needs}
+use Rattle.checks.specs.Checks.{firstMet}
+use Rattle.lists.specs.Lists.{someOutside, rises}
+use Rattle.lists.proofs.list_refusal.Statement.{statement}
+use Rattle.lists.proofs.list_refusal.Tie as tie
+
+returns : tie.Need-returns
+unfolding firstMet
+returns c =
+    let g = c .before .before .before .args in
+    let o : someOutside (g .n) (g .list .now) ≡ true = sym (c .before .some-outside .ensures) ∙ c .if1 .taken in
+    rw o
+
+returns-2 : tie.Need-returns-2
+unfolding firstMet
+returns-2 c =
+    let g = c .before .before .before .before .before .args in
+    let o : someOutside (g .n) (g .list .now) ≡ false = sym (c .before .before .before .some-outside .ensures) ∙ c .before .before .if1 .left in
+    let r : rises (g .list .now) ≡ false = sym (c .before .is-rising .ensures) ∙ not-true _ (c .if2 .taken) in
+    rw (o, r)
+
+returns-3 : tie.Need-returns-3
+unfolding firstMet
+returns-3 c =
+    let g = c .before .before .before .before .before .args in
+    let o : someOutside (g .n) (g .list .now) ≡ false = sym (c .before .before .before .some-outside .ensures) ∙ c .before .before .if1 .left in
+    let r : rises (g .list .now) ≡ true = sym (c .before .is-rising .ensures) ∙ not-false _ (c .if2 .left) in
+    rw (o, r)
+
+pub list-refusal-spec : {M : Type 1} → statement M
+list-refusal-spec =
+    tie.close
+    (tie.spec
+    (λ c κs. search needs)
+    returns
+    (λ c κs. search needs)
+    returns-2
+    returns-3)
