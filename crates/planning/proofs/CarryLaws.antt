@@ -1,16 +1,21 @@
 -- Steps made one after the other on a nodes buffer, as far as they have come.
 -- Assumes nothing.
 use mathlib.Core.Path.{_≡_, refl, sym, ap, _∙_, subst}
-use mathlib.Core.List.{List, [], _∷_}
+use mathlib.Core.Bool.{Bool, true}
+use mathlib.Core.List.{List, [], _∷_, _++_}
 use Prim.Native.Nat.{ℕ, zero, suc, _+_, _-_, _*_, _≤_, _<_}
 use native.Mathlib.Omega.{arith}
-use lib.ListN.{length, getD, drop}
+use lib.ListN.{length, getD, drop, set}
 use lib.Seq.{drop-drop, getD-drop}
 use Rattle.blocks.specs.Blocks.{xorBytes, blockOf, InBuffer}
-use Rattle.blocks.proofs.BlockLaws.{length-withBlock}
+use Rattle.families.specs.declared.Family.{Family}
+use Rattle.families.specs.Families.{KInRange, IsNode, nodeCount}
+use Rattle.families.proofs.Laws.{related-differ, related-turn}
+use Rattle.blocks.proofs.BlockLaws.{in-buffer, length-withBlock}
 use Rattle.blocks.proofs.PartLaws.{length-blockOf}
 use Rattle.blocks.proofs.XorBytes.{length-xorBytes}
-use Rattle.planning.specs.Plan.{Step}
+use Rattle.planning.specs.Plan.{Step, stepBytes}
+use Rattle.planning.specs.Claims.{CanMake, CanMakeAll}
 use Rattle.planning.specs.Made.{mended, nodesMade, stepsIn, StepIn, AllIn}
 
 in-kept : {L j : ℕ} {nodes : List ℕ} (other : List ℕ) → length other ≡ length nodes → InBuffer L nodes j → InBuffer L other j
@@ -84,3 +89,31 @@ module _ {L : ℕ} {bytes : List ℕ} {count : ℕ} {start nodes : List ℕ} {i 
   carry-done h =
       let e : count - i ≡ 0 = omega arith in
       sym (w .rest ∙ ap (λ (m : ℕ). nodesMade L nodes (stepsIn (drop (4 * i) bytes) m)) e)
+
+-- ---- the steps of a plan as they are carried out
+
+-- the steps are read back from their bytes
+pub steps-back : (steps : List Step) (t : List ℕ) → stepsIn (stepBytes steps ++ t) (length steps) ≡ steps
+unfolding stepsIn stepBytes
+steps-back [] t = refl
+steps-back (x ∷ steps) t = ap (λ (l : List Step). x ∷ l) (steps-back steps t)
+
+module _ (f : Family) (k : ℕ) (range : KInRange f k) (L : ℕ) (nodes : List ℕ) (size : length nodes ≡ nodeCount f k * L) where
+  node-in : {j : ℕ} → IsNode f k j → InBuffer L nodes j
+  node-in {j} n = in-buffer L nodes (nodeCount f k) j size (n .first) (n .last)
+
+  -- the blocks of a step that can be made lie in a nodes buffer
+  pub step-in : (marks : List Bool) (step : Step) → CanMake f k marks step → StepIn L nodes step
+  step-in marks step c =
+      let turned = related-turn f k (step .smaller) (step .larger) (step .node) (c .related) in
+      record {
+        node = node-in (c .node);
+        smaller = node-in (c .smaller);
+        larger = node-in (c .larger);
+        not-smaller = related-differ f k range (step .node) (step .smaller) (step .larger) (c .larger) (related-turn f k (step .larger) (step .node) (step .smaller) turned);
+        not-larger = λ e. related-differ f k range (step .larger) (step .node) (step .smaller) (c .smaller) turned (sym e);
+      }
+
+  pub all-in : (marks : List Bool) (steps : List Step) → CanMakeAll f k marks steps → AllIn L nodes steps
+  all-in marks [] c = tt
+  all-in marks (step ∷ steps) (c, d) = (step-in marks step c, all-in (set marks (step .node) true) steps d)

@@ -18,13 +18,13 @@ use Rattle.lists.specs.Lists.{isLive, setLive, liveFrom, liveNodes}
 use Rattle.lists.proofs.Laws.{length-setLive}
 use Rattle.planning.specs.Claims.{CanMake, CanMakeAll}
 use Rattle.planning.specs.Pairs.{smallerNode}
-use Rattle.planning.specs.Plan.{Step, isRepaired, stepOf, stepsFrom, roundSteps, nodesOf, marksAfter, countFrom, nodesLeft}
+use Rattle.planning.specs.Plan.{Step, isRepaired, stepOf, stepsFrom, roundSteps, repairedNodes, marksAfter, countFrom, nodesLeft}
 use Rattle.planning.proofs.PairLaws.{PairOf, pair-of}
 
 -- ---- the marks after steps
 
 pub length-marksAfter : (marks : List Bool) (steps : List Step) → length (marksAfter marks steps) ≡ length marks
-length-marksAfter marks steps = length-setLive marks (nodesOf steps)
+length-marksAfter marks steps = length-setLive marks (repairedNodes steps)
 
 -- a live mark stays live
 set-keeps : (marks : List Bool) (i j : ℕ) → isLive marks j ≡ true → isLive (set marks i true) j ≡ true

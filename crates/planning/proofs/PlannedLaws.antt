@@ -9,7 +9,7 @@ use native.Mathlib.Numerals.{add-one}
 use native.Mathlib.Omega.{arith}
 use borrow.Rule.Slice.PartMut.{putMid, same-len-mid}
 use lib.ListN.{length, drop, length-append, take-append-drop}
-use Rattle.blocks.proofs.PartLaws.{length-mid}
+use Rattle.blocks.proofs.PartLaws.{length-mid, put-beside}
 use Rattle.families.specs.declared.Family.{Family}
 use Rattle.families.specs.Families.{KInRange, nodeCount}
 use Rattle.lists.specs.Lists.{liveNodes, setLive}
@@ -19,7 +19,7 @@ use Rattle.planning.specs.Planned.{plannedOf}
 use Rattle.planning.specs.declared.Planned.{Planned}
 use Rattle.planning.proofs.MakeLaws.{length-marksAfter, can-make-append, round-makes, make-counts, left-few, left-is}
 use Rattle.planning.proofs.PlanLaws.{rounds-end, rounds-more}
-use Rattle.planning.proofs.RoundLaws.{bytes-append, length-bytes, marks-append, put-after}
+use Rattle.planning.proofs.RoundLaws.{bytes-append, length-bytes, marks-append}
 
 -- ---- the last round
 
@@ -123,7 +123,7 @@ module _ {f : Family} {k : ℕ} {start : List Bool} {before out : List ℕ} {mar
         bytes =
             rw (w .count, w .bytes, l, bytes-append (w .done) round, fours)
             (ap (λ (a : ℕ). putMid a (4 * length round) (putMid 0 (4 * length (w .done)) before (stepBytes (w .done))) (stepBytes round)) (sym (zero-add (4 * length (w .done))))
-            ∙ put-after before (stepBytes (w .done)) (stepBytes round) 0 (4 * length (w .done)) (4 * length round) (length-bytes (w .done)) (omega (arith, round-fits, w .count, w .kept)));
+            ∙ put-beside before (stepBytes (w .done)) (stepBytes round) 0 (4 * length (w .done)) (4 * length round) (omega arith) (length-bytes (w .done)));
       }
 
   -- a round without steps ends the plan

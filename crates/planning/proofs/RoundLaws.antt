@@ -13,14 +13,14 @@ use lib.Dec.{eqb, ltb}
 use lib.ListN.{length, take, drop, set, length-append, length-take, take-append-drop}
 use lib.Seq.{drop-drop, take-at, drop-at, length-take-le}
 use Rattle.base.proofs.Tests.{and-left, and-right}
-use Rattle.blocks.proofs.PartLaws.{length-mid}
+use Rattle.blocks.proofs.PartLaws.{length-mid, put-beside}
 use Rattle.families.specs.declared.Family.{Family}
 use Rattle.families.specs.Families.{KInRange, IsNode, nodeCount, firstFrom}
 use Rattle.families.proofs.First.{found}
 use Rattle.families.proofs.Laws.{few}
 use Rattle.lists.specs.Lists.{isLive, setLive}
 use Rattle.planning.specs.Pairs.{smallerNode, largerNode}
-use Rattle.planning.specs.Plan.{Step, isRepaired, stepOf, stepsFrom, roundSteps, nodesOf, marksAfter, stepBytes}
+use Rattle.planning.specs.Plan.{Step, isRepaired, stepOf, stepsFrom, roundSteps, repairedNodes, marksAfter, stepBytes}
 use Rattle.planning.specs.Search.{nextNode, repairOf}
 use Rattle.planning.specs.declared.Repair.{Repair}
 use Rattle.planning.proofs.PairLaws.{PairOf, pair-of}
@@ -125,13 +125,6 @@ module _ (f : Family) (k : ℕ) (marks : List Bool) (r : ℕ) where
 
 -- ---- a round, put into a list of bytes and marked
 
--- a part put next to a part
-pub put-after : (t u v : List ℕ) (a m n : ℕ) → length u ≡ m → a + m ≤ length t → putMid (a + m) n (putMid a m t u) v ≡ putMid a (m + n) t (u ++ v)
-put-after t u v a m n g h =
-    let e : length (take a t ++ u) ≡ a + m = simp (length-append, length-take-le a t (omega arith), g) in
-    let rest = drop m (drop a t) in
-    rw (← append-assoc (take a t) u rest, take-at (take a t ++ u) rest (a + m) e, drop-at (take a t ++ u) rest (a + m) e, drop-drop n m (drop a t), append-assoc (take a t) u, append-assoc u v)
-
 -- the steps as far as `node` are in their places, and their nodes marked
 pub record InRound (f : Family) (k : ℕ) (marks : List Bool) (r : ℕ) (start : List ℕ) (from : ℕ) (before : List Bool) (out : List ℕ) (next : List Bool) (steps node : ℕ) : Type 0 where
   pub done : List Step
@@ -176,7 +169,7 @@ module _ {f : Family} {k : ℕ} {marks : List Bool} {r : ℕ} {start : List ℕ}
           count = omega (arith, w .count);
           room = w .room;
           kept = same-len-mid (from + 4 * steps) 4 out (r ∷ x .node ∷ x .smaller ∷ x .larger ∷ []) (sym (length-mid out (from + 4 * steps) 4 round-room)) ∙ w .kept;
-          bytes = rw (w .count, w .bytes, l, bytes-append (w .done) one, fours) (put-after start (stepBytes (w .done)) (stepBytes one) from (4 * length (w .done)) 4 (length-bytes (w .done)) (omega (arith, round-room, w .count, w .kept)));
+          bytes = rw (w .count, w .bytes, l, bytes-append (w .done) one, fours) (put-beside start (stepBytes (w .done)) (stepBytes one) from (4 * length (w .done)) 4 (omega (arith, round-room, w .kept)) (length-bytes (w .done)));
           marked = rw (w .marked, marks-append before (w .done) one);
         }
 

@@ -35,12 +35,12 @@ abbrev pub roundSteps : Family → ℕ → List Bool → ℕ → List Step
 roundSteps f k marks r = stepsFrom f k marks r 1 (nodeCount f k)
 
 -- the nodes that steps repair
-abbrev pub nodesOf : List Step → List ℕ
-nodesOf steps = map (λ (step : Step). step .node) steps
+abbrev pub repairedNodes : List Step → List ℕ
+repairedNodes steps = map (λ (step : Step). step .node) steps
 
 -- the marks after steps
 abbrev pub marksAfter : List Bool → List Step → List Bool
-marksAfter marks steps = setLive marks (nodesOf steps)
+marksAfter marks steps = setLive marks (repairedNodes steps)
 
 -- a round without repairs ends the plan
 abbrev pub thenRounds : List Step → List Step → List Step

@@ -1,6 +1,6 @@
 // Planning on plain marks: the pair that repairs a node, a round, the plan, and a plan carried out on a nodes buffer.
-mod carry;
-mod rounds;
+pub mod carry;
+pub mod rounds;
 mod search;
 
 // A node to repair and its pair; zeros where a round has no node left to repair.

@@ -3,4 +3,11 @@ pub mod ReadOutLaws
 pub mod BoxedLaws
 pub mod RoundTripLaws
 pub mod ListedLaws
+pub mod StepLaws
+pub mod RepairsLaws
 pub mod Proved
+pub mod OwnLaws
+pub mod RepairsProved
+pub mod LeftOverLaws
+pub mod CallLaws
+pub mod LeftOverProved

@@ -20,7 +20,7 @@ use Rattle.readout.specs.DataBlocks.{dataNode, missingBlock, dataBlocks}
 use Rattle.readout.proofs.Laws.{data-node}
 
 -- where no number of a range above 0 passes a test, each fails it
-first-zero : (test : ℕ → Bool) (j m : ℕ) → 1 ≤ j → firstFrom test j m ≡ 0 → (h : ℕ) → j ≤ h → h < j + m → test h ≡ false
+pub first-zero : (test : ℕ → Bool) (j m : ℕ) → 1 ≤ j → firstFrom test j m ≡ 0 → (h : ℕ) → j ≤ h → h < j + m → test h ≡ false
 unfolding firstFrom
 first-zero test j zero l e h a b = absurd (omega arith)
 first-zero test j (suc m) l e h a b = go (test j) refl e (λ z g. first-zero test (suc j) m (omega arith) z h g (omega arith))
@@ -42,7 +42,7 @@ place-there (x ∷ list) j h = go (eqb x j) refl (place-there list j) h
 
 module _ (f : Family) (k L : ℕ) (nodes other : List ℕ) where
   -- buffers that agree at each data block's node have the same data blocks
-  same-blocks : (m : ℕ) → ((i : ℕ) → 1 ≤ i → i ≤ m → blockOf L nodes (dataNode f k i) ≡ blockOf L other (dataNode f k i))
+  pub same-blocks : (m : ℕ) → ((i : ℕ) → 1 ≤ i → i ≤ m → blockOf L nodes (dataNode f k i) ≡ blockOf L other (dataNode f k i))
       → dataBlocks f k L nodes m ≡ dataBlocks f k L other m
   unfolding dataBlocks
   same-blocks zero h = refl

@@ -1,4 +1,9 @@
 pub mod Session
 pub mod ReadOut
 pub mod Boxed
+pub mod Step
+pub mod Repairs
+pub mod Calls
+pub mod LeftOver
 pub mod Claims
+pub mod RepairClaims

@@ -1,7 +1,10 @@
 // Sessions: which nodes of an object are live, and what is done with them.
 mod boxed;
 mod out;
+mod plan;
+mod run;
 mod start;
+mod step;
 
 // A family, k and L, and a mark for each node number, live or missing. It is plain data: whatever a caller puts into one is
 // refused by the first check of an operation where no start gives it.
@@ -29,5 +32,20 @@ pub struct Written {
 pub struct ReadOut {
     pub refusal: u8,
     pub block: usize,
+    pub session: Session,
+}
+
+// What a step gives: 0 and the next session, or the refusal's number and the session as it was handed in.
+pub struct Stepped {
+    pub refusal: u8,
+    pub session: Session,
+}
+
+// What a plan or a run gives: its steps, its rounds and the nodes left, or the refusal's number and zeros.
+pub struct Repairs {
+    pub refusal: u8,
+    pub steps: usize,
+    pub rounds: usize,
+    pub left: usize,
     pub session: Session,
 }

@@ -1,0 +1,74 @@
+-- The claims of specs/LeftOver.antt: demand 3, and that the number of open nodes is the same at every block length.
+-- Assumes nothing.
+use mathlib.Core.Path.{_≡_, sym, ap, _∙_}
+use mathlib.Core.List.{List}
+use Prim.Native.Nat.{ℕ, _≤_, _<_}
+use native.Mathlib.Omega.{arith}
+use Rattle.families.specs.declared.Family.{Family}
+use Rattle.families.specs.Families.{familyOf}
+use Rattle.families.proofs.Laws.{few}
+use Rattle.lists.specs.Lists.{noneLive, isLive, setLive}
+use Rattle.planning.specs.Pairs.{NoPairLeft}
+use Rattle.leftover.specs.Open.{OpenCount}
+use Rattle.leftover.proofs.Reached.{Ended}
+use Rattle.leftover.proofs.Missing.{missing-is-open}
+use Rattle.leftover.proofs.Count.{one-count}
+use Rattle.repair.specs.declared.Session.{Session}
+use Rattle.repair.specs.Session.{sessionOf}
+use Rattle.repair.specs.Calls.{Call, sessionAfterAll, liveAfter}
+use Rattle.repair.specs.LeftOver.{isIn, lastSession, LeftOver, Demand3, SameCount}
+use Rattle.repair.proofs.LeftOverLaws.{Grown, grown-start, grown-ended, is-in, leftOf, left-open, left-same}
+use Rattle.repair.proofs.CallLaws.{Accepted, accepted-start, ran-left, planned-left, calls-session, calls-live}
+
+module _ (family k L : ℕ) (list : List ℕ) (start : Accepted family k L list) where
+  abbrev f : Family
+  f = familyOf family
+
+  abbrev after : List Call → List ℕ
+  after calls = liveAfter family k L list calls
+
+  session-is : (calls : List Call) → lastSession family k L list calls ≡ sessionOf family k L (after calls)
+  session-is calls = ap (λ (s : Session). sessionAfterAll s calls) (start .session) ∙ calls-session family k L calls list
+
+  first : Grown f k list list
+  first = grown-start f k list (start .range) (start .nodes)
+
+  grown : (calls : List Call) → Grown f k list (after calls)
+  grown calls = calls-live family k L (start .range) list calls list first
+
+  in-after : (calls : List Call) (j : ℕ) → j < 256 → isLive (setLive noneLive (after calls)) j ≡ isIn (after calls) j
+  in-after calls j h = is-in f k list (start .range) (after calls) (grown calls) j h
+
+  -- when no pair is left
+  ended : (calls : List Call) → NoPairLeft f k (isIn (after calls)) → Ended f k list (isIn (after calls))
+  ended calls done =
+      grown-ended f k list (start .range) (start .nodes) (after calls) (grown calls) (isIn (after calls))
+      (λ j n. in-after calls j (omega (arith, n .last, few f k (start .range)))) done
+
+  same-left : (calls : List Call) → leftOf f k (after calls) ≡ leftOf f k list
+  same-left calls = left-same f k list (start .range) (start .nodes) (after calls) (grown calls)
+
+  -- the number of open nodes at any block length
+  open-first : (M : ℕ) → 1 ≤ M → OpenCount f k M list (leftOf f k list)
+  open-first M h = left-open f k list (start .range) (start .nodes) list first M h
+
+  left-over : (calls : List Call) (M : ℕ) → 1 ≤ M → LeftOver family k L list calls M
+  left-over calls M h =
+      record {
+        marks = λ j l. rw (session-is calls) (in-after calls j l);
+        missing-open = λ done. missing-is-open f k (start .range) list (start .nodes) (isIn (after calls)) (ended calls done) M h;
+        count = leftOf f k list;
+        open-nodes = open-first M h;
+        runs = λ earlier nodes later is e. ran-left (lastSession family k L list earlier) nodes e ∙ rw (session-is earlier) (same-left earlier);
+        plans = λ out e. planned-left (lastSession family k L list calls) out e ∙ rw (session-is calls) (same-left calls);
+      }
+
+pub demand-3 : Demand3
+demand-3 family k L list e = left-over family k L list (accepted-start family k L list e)
+
+pub same-count : SameCount
+same-count family k L list e M N c d m n p q =
+    let start = accepted-start family k L list e in
+    let number : ℕ = leftOf (familyOf family) k list in
+    one-count (familyOf family) k M list c number p (open-first family k L list start M m)
+    ∙ sym (one-count (familyOf family) k N list d number q (open-first family k L list start N n))

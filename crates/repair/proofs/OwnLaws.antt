@@ -1,0 +1,263 @@
+-- Steps and runs as calls on a session and a nodes buffer: a run is its plan's steps, and both keep the object's own blocks.
+-- Assumes nothing.
+use mathlib.Core.Path.{_≡_, refl, sym, ap, ap₂, _∙_, subst}
+use mathlib.Core.Bool.{Bool, true, false, not, _||_}
+use mathlib.Core.List.{List, [], _∷_, map}
+use Prim.Native.Nat.{ℕ, zero, suc, _+_, _-_, _*_, _≤_, _<_}
+use native.Mathlib.Decide.{ℕ-discrete}
+use native.Mathlib.Omega.{arith}
+use borrow.Author.Tests.{eqb-true, eq-eqb, not-false}
+use lib.Dec.{eqb}
+use lib.ListN.{length, set, length-set}
+use lib.Seq.{getD-set-other}
+use Rattle.base.proofs.Tests.{or-neither}
+use Rattle.families.specs.Families.{familyOf, IsNode, columnOf}
+use Rattle.blocks.specs.Blocks.{xorBytes, blockOf, InBuffer}
+use Rattle.blocks.proofs.BlockLaws.{in-buffer, blockOf-same, blockOf-other}
+use Rattle.blocks.proofs.PartLaws.{length-blockOf}
+use Rattle.blocks.proofs.XorBytes.{length-xorBytes}
+use Rattle.checks.specs.Checks.{Check, firstMet}
+use Rattle.checks.proofs.Laws.{accepted, outside-no}
+use Rattle.encoding.specs.Matrix.{nodeBlock, nodesBuffer}
+use Rattle.encoding.proofs.Nodes.{related-block, buffer-block}
+use Rattle.lists.specs.Lists.{someOutside, isLive, setLive, someMissing, someLive, liveOutside}
+use Rattle.lists.proofs.Laws.{outside-none}
+use Rattle.boxes.proofs.Answers.{none-zero}
+use Rattle.planning.specs.Claims.{CanMake, CanMakeAll}
+use Rattle.planning.specs.Made.{mended, nodesMade}
+use Rattle.planning.specs.Plan.{Step, repairedNodes}
+use Rattle.planning.proofs.CarryLaws.{length-mended}
+use Rattle.planning.proofs.Proved.{plan-claim}
+use Rattle.readout.specs.DataBlocks.{dataNode, missingBlock}
+use Rattle.readout.proofs.Laws.{data-node, blocks-of-encoded}
+use Rattle.repair.specs.declared.Session.{Session}
+use Rattle.repair.specs.Session.{nodesOf, noStart, nodesChecks}
+use Rattle.repair.specs.ReadOut.{missingIn, readOutChecks, objectOut}
+use Rattle.repair.specs.Step.{stepChecks, withLive, stepped, nodesStepped}
+use Rattle.repair.specs.Repairs.{planIn, runChecks, ran, nodesRan}
+use Rattle.repair.specs.Calls.{Move, step, run, sessionAfter, nodesAfter, Held, heldAfter}
+use Rattle.repair.specs.RepairClaims.{asMove, LiveAreOwn}
+use Rattle.repair.proofs.StartLaws.{Known, known, Sized, sized}
+use Rattle.repair.proofs.ReadOutLaws.{read}
+use Rattle.repair.proofs.ListedLaws.{first-zero, same-blocks}
+
+-- ---- a session with one node more is still one that some start gives
+
+some-kept : (marks : List Bool) (j i m : ℕ) → j < i → someLive (set marks j true) i m ≡ someLive marks i m
+unfolding someLive
+some-kept marks j i zero h = refl
+some-kept marks j i (suc m) h = ap₂ _||_ (getD-set-other marks j i true false (λ e. omega arith)) (some-kept marks j (suc i) m (omega arith))
+
+outside-kept : (n : ℕ) (marks : List Bool) (j : ℕ) → 1 ≤ j → j ≤ n → liveOutside n (set marks j true) ≡ liveOutside n marks
+unfolding liveOutside
+outside-kept n marks j h g = ap₂ _||_ (getD-set-other marks j 0 true false (λ e. omega arith)) (some-kept marks j (n + 1) (255 - n) (omega arith))
+
+start-kept : (s : Session) (j : ℕ) → IsNode (familyOf (s .family)) (s .k) j → noStart (withLive s (j ∷ [])) ≡ noStart s
+unfolding noStart setLive
+start-kept s j n = rw (outside-kept (nodesOf s) (s .live) j (n .first) (n .last))
+
+-- ---- a step, accepted
+
+-- its checks, and what it gives where none is met
+abbrev checksOf : Session → List ℕ → Step → List Check
+checksOf s nodes made = stepChecks s nodes (made .node) (made .smaller) (made .larger)
+
+abbrev sessionWith : Session → Step → Session
+sessionWith s made = withLive s (made .node ∷ [])
+
+abbrev nodesWith : Session → List ℕ → Step → List ℕ
+nodesWith s nodes made = mended (s .len) nodes (made .node) (made .smaller) (made .larger)
+
+module _ (s : Session) (nodes : List ℕ) (made : Step) where
+  -- what an accepted step says
+  record AcceptedStep : Type 0 where
+    buffer : Sized s (length nodes)
+    makes : CanMake (familyOf (s .family)) (s .k) (s .live) made
+
+  accepted-step : firstMet (checksOf s nodes made) ≡ 0 → AcceptedStep
+  unfolding stepChecks nodesChecks someMissing
+  accepted-step e =
+      let n = accepted (checksOf s nodes made) refl e in
+      let inside = outside-none (nodesOf s) (made .node ∷ made .smaller ∷ made .larger ∷ []) (n .1 .1 .0) in
+      let j = inside 0 (omega arith) in
+      let a = inside 1 (omega arith) in
+      let b = inside 2 (omega arith) in
+      let both = or-neither (not (isLive (s .live) (made .smaller))) _ (n .1 .1 .1 .1 .1 .0) in
+      record {
+        buffer = record { starts = n .0; size = eqb-true _ _ (not-false _ (n .1 .0)) };
+        makes =
+            record {
+              node = record { first = j .0; last = j .1 };
+              smaller = record { first = a .0; last = a .1 };
+              larger = record { first = b .0; last = b .1 };
+              related = not-false _ (n .1 .1 .1 .0);
+              missing = n .1 .1 .1 .1 .0;
+              smaller-live = not-false _ (both .0);
+              larger-live = not-false _ (or-neither (not (isLive (s .live) (made .larger))) false (both .1) .0);
+            };
+      }
+
+  module _ (w : AcceptedStep) where
+    step-accepted : firstMet (checksOf s nodes made) ≡ 0
+    unfolding stepChecks nodesChecks someOutside someMissing
+    step-accepted =
+        let m = w .makes in
+        let n : ℕ = nodesOf s in
+        none-zero (checksOf s nodes made) (
+          w .buffer .starts,
+          (
+            ap not (eq-eqb (length nodes) (n * s .len) (w .buffer .size)),
+            (
+              simp (outside-no 1 n (made .node) (m .node .first) (m .node .last), outside-no 1 n (made .smaller) (m .smaller .first) (m .smaller .last), outside-no 1 n (made .larger) (m .larger .first) (m .larger .last)),
+              (ap not (m .related), (m .missing, (simp (m .smaller-live, m .larger-live), tt))),
+            ),
+          ),
+        )
+
+    session-stepped : stepped s nodes (made .node) (made .smaller) (made .larger) .session ≡ sessionWith s made
+    unfolding stepped
+    session-stepped = rw step-accepted
+
+    nodes-stepped : nodesStepped s nodes (made .node) (made .smaller) (made .larger) ≡ nodesWith s nodes made
+    unfolding nodesStepped
+    nodes-stepped = rw step-accepted
+
+    -- its blocks
+    in-nodes : (i : ℕ) → IsNode (familyOf (s .family)) (s .k) i → InBuffer (s .len) nodes i
+    in-nodes i n = in-buffer (s .len) nodes (nodesOf s) i (w .buffer .size) (n .first) (n .last)
+
+    sized-stepped : Sized (sessionWith s made) (length (nodesWith s nodes made))
+    sized-stepped =
+        let m = w .makes in
+        record {
+          starts = start-kept s (made .node) (m .node) ∙ w .buffer .starts;
+          size = length-mended (in-nodes (made .node) (m .node)) (in-nodes (made .smaller) (m .smaller)) (in-nodes (made .larger) (m .larger)) ∙ w .buffer .size;
+        }
+
+-- ---- steps that can be made, one after the other
+
+steps-held : (s : Session) (nodes : List ℕ) (steps : List Step) → Sized s (length nodes) → CanMakeAll (familyOf (s .family)) (s .k) (s .live) steps
+    → heldAfter s nodes (map asMove steps) ≡ record { session = withLive s (repairedNodes steps); nodes = nodesMade (s .len) nodes steps }
+unfolding heldAfter nodesMade setLive
+steps-held s nodes [] z a = refl
+steps-held s nodes (x ∷ steps) z a =
+    let w : AcceptedStep s nodes x = record { buffer = z; makes = a .0 } in
+    ap₂ (λ (t : Session) (b : List ℕ). heldAfter t b (map asMove steps)) (session-stepped s nodes x w) (nodes-stepped s nodes x w)
+    ∙ steps-held (sessionWith s x) (nodesWith s nodes x) steps (sized-stepped s nodes x w) (a .1)
+
+module _ (s : Session) (nodes : List ℕ) (e : firstMet (runChecks s nodes) ≡ 0) where
+  -- what an accepted run says
+  run-sized : Sized s (length nodes)
+  unfolding runChecks
+  run-sized = sized s (length nodes) e
+
+  pub run-known : Known s
+  run-known = known s (run-sized .starts)
+
+  pub session-ran : ran s nodes .session ≡ withLive s (repairedNodes (planIn s))
+  unfolding ran
+  session-ran = rw e
+
+  nodes-ran : nodesRan s nodes ≡ nodesMade (s .len) nodes (planIn s)
+  unfolding nodesRan
+  nodes-ran = rw e
+
+  pub run-steps : length (s .live) ≡ 256 → heldAfter s nodes (map asMove (planIn s)) ≡ record { session = ran s nodes .session; nodes = nodesRan s nodes }
+  run-steps size =
+      steps-held s nodes (planIn s) run-sized (plan-claim (familyOf (s .family)) (s .k) (run-known .range .blocks) (s .live) size .makes)
+      ∙ rw (session-ran, nodes-ran)
+
+-- ---- the object's own blocks
+
+module _ (object : List ℕ) where
+  -- the marks have their length, the object has the session's, and every live block is its own
+  pub record Own (s : Session) (nodes : List ℕ) : Type 0 where
+    pub marks : length (s .live) ≡ 256
+    pub size : length object ≡ s .k * s .len
+    pub live : LiveAreOwn object s nodes
+
+  abbrev pub OwnHeld : Held → Type 0
+  OwnHeld held = Own (held .session) (held .nodes)
+
+  own-made : (s : Session) (nodes : List ℕ) (made : Step) → AcceptedStep s nodes made → Own s nodes
+      → Own (sessionWith s made) (nodesWith s nodes made)
+  unfolding setLive
+  own-made s nodes made w o = record { marks = length-set (s .live) (made .node) true ∙ o .marks; size = o .size; live = λ i n v. go i n v (ℕ-discrete i (made .node)) }
+    where
+      own : ℕ → List ℕ
+      own i = nodeBlock (s .k) (s .len) object (columnOf (familyOf (s .family)) (s .k) i)
+
+      block : List ℕ
+      block = xorBytes (blockOf (s .len) nodes (made .smaller)) (blockOf (s .len) nodes (made .larger))
+
+      there : (i : ℕ) → IsNode (familyOf (s .family)) (s .k) i → InBuffer (s .len) nodes i
+      there = in-nodes s nodes made w
+
+      full : length block ≡ s .len
+      full =
+          let a = length-blockOf (there (made .smaller) (w .makes .smaller)) in
+          let b = length-blockOf (there (made .larger) (w .makes .larger)) in
+          length-xorBytes (blockOf (s .len) nodes (made .smaller)) (blockOf (s .len) nodes (made .larger)) (a ∙ sym b) ∙ a
+
+      -- the block that is made is the node's own
+      is-own : block ≡ own (made .node)
+      is-own =
+          let m = w .makes in
+          ap₂ xorBytes (o .live (made .smaller) (m .smaller) (m .smaller-live)) (o .live (made .larger) (m .larger) (m .larger-live))
+          ∙ sym (related-block (familyOf (s .family)) (s .k) (s .len) object (o .size) (made .smaller) (made .larger) (made .node) (m .related))
+
+      go : (i : ℕ) → IsNode (familyOf (s .family)) (s .k) i → isLive (set (s .live) (made .node) true) i ≡ true → Dec (i ≡ made .node)
+          → blockOf (s .len) (nodesWith s nodes made) i ≡ own i
+      go i n v (yes e) = rw e (blockOf-same (s .len) nodes (made .node) block (there (made .node) (w .makes .node)) full ∙ is-own)
+      go i n v (no d) =
+          blockOf-other (s .len) nodes (made .node) block (there (made .node) (w .makes .node)) full i (n .first) d
+          ∙ o .live i n (sym (getD-set-other (s .live) (made .node) i true false d) ∙ v)
+
+  -- a call that is turned away changes nothing
+  own-step : (s : Session) (nodes : List ℕ) (j a b : ℕ) → Own s nodes → Own (stepped s nodes j a b .session) (nodesStepped s nodes j a b)
+  unfolding stepped nodesStepped
+  own-step s nodes j a b o = go (eqb (firstMet (stepChecks s nodes j a b)) 0) refl
+    where
+      made : Step
+      made = record { round = 0; node = j; smaller = a; larger = b }
+
+      go : (met : Bool) → eqb (firstMet (stepChecks s nodes j a b)) 0 ≡ met → Own (stepped s nodes j a b .session) (nodesStepped s nodes j a b)
+      go true e = let w = accepted-step s nodes made (eqb-true _ 0 e) in rw (session-stepped s nodes made w, nodes-stepped s nodes made w) (own-made s nodes made w o)
+      go false e = rw e o
+
+  own-steps : (s : Session) (nodes : List ℕ) (steps : List Step) → Own s nodes → OwnHeld (heldAfter s nodes (map asMove steps))
+  unfolding heldAfter
+  own-steps s nodes [] o = o
+  own-steps s nodes (x ∷ steps) o = own-steps (sessionAfter s nodes (asMove x)) (nodesAfter s nodes (asMove x)) steps (own-step s nodes (x .node) (x .smaller) (x .larger) o)
+
+  own-run : (s : Session) (nodes : List ℕ) → Own s nodes → Own (ran s nodes .session) (nodesRan s nodes)
+  unfolding ran nodesRan
+  own-run s nodes o = go (eqb (firstMet (runChecks s nodes)) 0) refl
+    where
+      go : (b : Bool) → eqb (firstMet (runChecks s nodes)) 0 ≡ b → Own (ran s nodes .session) (nodesRan s nodes)
+      go true e = subst OwnHeld (run-steps s nodes (eqb-true _ 0 e) (o .marks)) (own-steps s nodes (planIn s) o)
+      go false e = rw e o
+
+  pub own-moves : (s : Session) (nodes : List ℕ) (moves : List Move) → Own s nodes → OwnHeld (heldAfter s nodes moves)
+  unfolding heldAfter
+  own-moves s nodes [] o = o
+  own-moves s nodes (step j a b ∷ moves) o =
+      own-moves (sessionAfter s nodes (step j a b)) (nodesAfter s nodes (step j a b)) moves (own-step s nodes j a b o)
+  own-moves s nodes (run ∷ moves) o = own-moves (sessionAfter s nodes run) (nodesAfter s nodes run) moves (own-run s nodes o)
+
+  -- where read out is accepted, every data block's node is live, so the buffer's data blocks are those of the encoded object
+  pub own-out : (s : Session) (nodes result : List ℕ) → Own s nodes → firstMet (readOutChecks s nodes result) ≡ 0 → objectOut s nodes result ≡ object
+  unfolding readOutChecks nodesChecks missingBlock
+  own-out s nodes result o e =
+      let f = familyOf (s .family) in
+      let n = accepted (readOutChecks s nodes result) refl e in
+      let range = known s (n .0) .range .blocks in
+      let whole : missingIn s ≡ 0 = eqb-true (missingIn s) 0 (not-false _ (n .1 .1 .1 .0)) in
+      let at : (i : ℕ) → 1 ≤ i → i ≤ s .k → blockOf (s .len) nodes (dataNode f (s .k) i) ≡ blockOf (s .len) (nodesBuffer f (s .k) (s .len) object) (dataNode f (s .k) i)
+      = λ i l h.
+      let d = data-node f (s .k) i range l h in
+      o .live (dataNode f (s .k) i) (d .is-node) (not-false _ (first-zero _ 1 (s .k) (omega arith) whole i l (omega arith)))
+      ∙ sym (buffer-block f (s .k) (s .len) object (o .size) (dataNode f (s .k) i) (d .is-node)) in
+      sym (read s nodes result e .written)
+      ∙ same-blocks f (s .k) (s .len) nodes (nodesBuffer f (s .k) (s .len) object) (s .k) at
+      ∙ blocks-of-encoded f (s .k) (s .len) object range (o .size)

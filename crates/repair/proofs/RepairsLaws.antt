@@ -1,0 +1,110 @@
+-- What the checks of a plan and of a run say, and what they give.
+-- Assumes nothing.
+use mathlib.Core.Path.{_≡_, refl, sym, ap, _∙_, subst}
+use mathlib.Core.Bool.{Bool, true, false, cond}
+use mathlib.Core.List.{List, [], _∷_, _++_}
+use Prim.Native.Nat.{ℕ, _+_, _*_, _≤_, _<_}
+use native.Mathlib.Omega.{arith}
+use borrow.Author.Tests.{ne-eqb, lt-ltb, le-ltb}
+use lib.Dec.{eqb, ltb}
+use lib.ListN.{length, take, drop}
+use lib.Seq.{take-at}
+use Rattle.families.specs.declared.Family.{Family}
+use Rattle.families.specs.Families.{familyOf, KInRange, nodeCount}
+use Rattle.families.proofs.Laws.{few}
+use Rattle.checks.specs.Checks.{Check, _gives_, firstMet}
+use Rattle.planning.specs.Plan.{planOf, repairedNodes, stepBytes, nodesLeft}
+use Rattle.planning.specs.Planned.{plannedOf}
+use Rattle.planning.specs.Made.{nodesMade, stepsIn, AllIn}
+use Rattle.planning.specs.declared.Planned.{Planned}
+use Rattle.planning.proofs.RoundLaws.{length-bytes}
+use Rattle.planning.proofs.CarryLaws.{steps-back, all-in}
+use Rattle.planning.proofs.MakeLaws.{left-few}
+use Rattle.planning.proofs.Proved.{plan-claim}
+use Rattle.repair.specs.declared.Session.{Session}
+use Rattle.repair.specs.declared.Repairs.{Repairs}
+use Rattle.repair.specs.Session.{nodesOf, noStart}
+use Rattle.repair.specs.Step.{withLive}
+use Rattle.repair.specs.Repairs.{planIn, repairsOf, refusedRepairs, planChecks, planned, outPlanned, runChecks, ran, nodesRan}
+
+-- a plan has at most a step for each node
+pub plan-few : (f : Family) (k : ℕ) → KInRange f k → (marks : List Bool) → length marks ≡ 256 → length (planOf f k marks) ≤ nodeCount f k
+plan-few f k range marks size = omega (arith, plan-claim f k range marks size .counts, left-few marks (nodeCount f k))
+
+module _ (s : Session) where
+  -- ---- plan
+
+  module _ (out : List ℕ) where
+    -- an answer and the destination afterwards
+    pub record Plans (answer : Repairs) (after : List ℕ) : Type 0 where
+      pub answer-is : answer ≡ planned s out
+      pub out-is : after ≡ outPlanned s out
+
+    plan-refused : (number : ℕ) → number ≡ firstMet (planChecks s out) → (number ≡ 0 → ⊥) → Plans (refusedRepairs s number) out
+    unfolding planned outPlanned
+    plan-refused number e h =
+        let n = ne-eqb (firstMet (planChecks s out)) 0 (λ z. h (e ∙ z)) in
+        record { answer-is = rw (n, e); out-is = rw n }
+
+    pub plan-13 : noStart s ≡ true → Plans (refusedRepairs s 13) out
+    unfolding planChecks firstMet
+    plan-13 e = plan-refused 13 (rw e) (λ z. omega arith)
+
+    module _ (e : noStart s ≡ false) where
+      pub plan-6 : length out < 4 * length (planIn s) → Plans (refusedRepairs s 6) out
+      unfolding planChecks firstMet
+      plan-6 h = plan-refused 6 (rw (e, lt-ltb (length out) (4 * length (planIn s)) h)) (λ z. omega arith)
+
+      pub plan-made : 4 * length (planIn s) ≤ length out → Plans (repairsOf s s) (stepBytes (planIn s) ++ drop (4 * length (planIn s)) out)
+      unfolding planChecks firstMet planned outPlanned
+      plan-made h = let l = le-ltb (length out) (4 * length (planIn s)) h in record { answer-is = rw (e, l); out-is = rw (e, l) }
+
+  -- ---- run
+
+  module _ (nodes : List ℕ) where
+    -- an answer and the nodes buffer afterwards
+    pub record Runs (answer : Repairs) (after : List ℕ) : Type 0 where
+      pub answer-is : answer ≡ ran s nodes
+      pub nodes-are : after ≡ nodesRan s nodes
+
+    pub run-refused : (number : ℕ) → number ≡ firstMet (runChecks s nodes) → (number ≡ 0 → ⊥) → Runs (refusedRepairs s number) nodes
+    unfolding ran nodesRan
+    run-refused number e h =
+        let n = ne-eqb (firstMet (runChecks s nodes)) 0 (λ z. h (e ∙ z)) in
+        record { answer-is = rw (n, e); nodes-are = rw n }
+
+    pub run-made : firstMet (runChecks s nodes) ≡ 0 → Runs (repairsOf s (withLive s (repairedNodes (planIn s)))) (nodesMade (s .len) nodes (planIn s))
+    unfolding ran nodesRan
+    run-made e = record { answer-is = rw e; nodes-are = rw e }
+
+-- ---- the plan that was made aside: its counts, and its steps in a list of bytes
+
+module _ (s : Session) (made : Planned) (is : made ≡ plannedOf (familyOf (s .family)) (s .k) (s .live)) where
+  pub made-steps : made .steps ≡ length (planIn s)
+  made-steps = ap (λ (p : Planned). p .steps) is
+
+  pub made-answer : (next : Session) → record { refusal = 0; steps = made .steps; rounds = made .rounds; left = made .left; session = next } ≡ repairsOf s next
+  made-answer next = rw is
+
+  -- with the session that a run hands back
+  pub made-ran : record { refusal = 0; steps = made .steps; rounds = made .rounds; left = made .left; session = record { family = s .family; k = s .k; len = s .len; live = made .live } }
+      ≡ repairsOf s (withLive s (repairedNodes (planIn s)))
+  made-ran = rw is
+
+  pub made-few : KInRange (familyOf (s .family)) (s .k) → length (s .live) ≡ 256 → made .steps ≤ 255
+  made-few range size = omega (arith, made-steps, plan-few (familyOf (s .family)) (s .k) range (s .live) size, few (familyOf (s .family)) (s .k) range)
+
+  module _ (bytes after : List ℕ) (holds : bytes ≡ stepBytes (planIn s) ++ after) where
+    -- the bytes of its steps alone
+    pub made-bytes : take (4 * made .steps) bytes ≡ stepBytes (planIn s)
+    made-bytes = rw (holds, made-steps) (take-at (stepBytes (planIn s)) after (4 * length (planIn s)) (length-bytes (planIn s)))
+
+    -- its steps, read back
+    pub made-back : stepsIn bytes (made .steps) ≡ planIn s
+    made-back = rw (holds, made-steps) (steps-back (planIn s) after)
+
+    pub made-in : KInRange (familyOf (s .family)) (s .k) → length (s .live) ≡ 256 → (nodes : List ℕ) → length nodes ≡ nodesOf s * s .len
+        → AllIn (s .len) nodes (stepsIn bytes (made .steps))
+    made-in range size nodes e =
+        subst (AllIn (s .len) nodes) (sym made-back)
+        (all-in (familyOf (s .family)) (s .k) range (s .len) nodes e (s .live) (planIn s) (plan-claim (familyOf (s .family)) (s .k) range (s .live) size .makes))

@@ -1,0 +1,25 @@
+-- The claims of specs/RepairClaims.antt.
+-- Assumes nothing.
+use mathlib.Core.Path.{sym, subst}
+use Rattle.families.specs.Families.{familyOf}
+use Rattle.lists.specs.Lists.{isLive}
+use Rattle.planning.specs.Pairs.{NoPairLeft}
+use Rattle.planning.proofs.Proved.{plan-claim}
+use Rattle.repair.specs.declared.Session.{Session}
+use Rattle.repair.specs.Calls.{heldAfter}
+use Rattle.repair.specs.RepairClaims.{RunIsStepsClaim, RunEndsClaim, OwnClaim}
+use Rattle.repair.proofs.OwnLaws.{run-known, session-ran, run-steps, OwnHeld, own-moves, own-out}
+
+pub run-is-steps : RunIsStepsClaim
+run-is-steps s size nodes e = run-steps s nodes e size
+
+pub run-ends : RunEndsClaim
+run-ends s size nodes e =
+    subst (λ (after : Session). NoPairLeft (familyOf (s .family)) (s .k) (isLive (after .live))) (sym (session-ran s nodes e))
+    (plan-claim (familyOf (s .family)) (s .k) (run-known s nodes e .range .blocks) (s .live) size .ends)
+
+pub own-claim : OwnClaim
+own-claim object s nodes marks size live moves =
+    let held = heldAfter s nodes moves in
+    let o : OwnHeld object held = own-moves object s nodes moves (record { marks = marks; size = size; live = live }) in
+    record { live = o .live; out = λ result e. own-out object (held .session) (held .nodes) result o e }

@@ -1,0 +1,141 @@
+-- What the checks of a step say, and what a step gives.
+-- Assumes nothing.
+use mathlib.Core.Path.{_≡_, refl, sym, ap, _∙_}
+use mathlib.Core.Bool.{Bool, true, false, cond, not, _||_}
+use mathlib.Core.List.{List, [], _∷_, _++_}
+use Prim.Native.Nat.{ℕ, _*_, _≤_}
+use native.Mathlib.Omega.{arith}
+use borrow.Author.Tests.{eqb-true, ne-eqb, not-false}
+use lib.Dec.{eqb}
+use lib.ListN.{length}
+use Rattle.base.proofs.Tests.{or-neither}
+use Rattle.families.specs.Families.{familyOf, IsNode, areRelated}
+use Rattle.checks.specs.Checks.{Check, _gives_, firstMet}
+use Rattle.checks.specs.Claims.{NoneMet}
+use Rattle.checks.specs.Parameters.{outside}
+use Rattle.checks.proofs.Laws.{inside, accepted, none-append, some-append}
+use Rattle.lists.specs.Lists.{someOutside, isLive, setLive, someMissing}
+use Rattle.planning.specs.Plan.{Step}
+use Rattle.planning.specs.Made.{mended, StepIn}
+use Rattle.planning.specs.Claims.{CanMake}
+use Rattle.planning.proofs.CarryLaws.{step-in}
+use Rattle.repair.specs.declared.Session.{Session}
+use Rattle.repair.specs.declared.Stepped.{Stepped}
+use Rattle.repair.specs.Session.{nodesOf, noStart, nodesChecks}
+use Rattle.repair.specs.Step.{stepChecks, withLive, stepped, nodesStepped}
+use Rattle.repair.proofs.StartLaws.{Known, known, nodes-none, Sized}
+
+module _ (s : Session) (nodes : List ℕ) (j a b : ℕ) where
+  abbrev outsideOf : ℕ → Bool
+  outsideOf i = outside 1 (nodesOf s) i
+
+  pub step-stops : (firstMet (nodesChecks s (length nodes)) ≡ 0 → ⊥) → firstMet (stepChecks s nodes j a b) ≡ firstMet (nodesChecks s (length nodes))
+  unfolding stepChecks
+  step-stops h = some-append (nodesChecks s (length nodes)) _ h
+
+  -- 13 and 6 are not met
+  module _ (e : firstMet (nodesChecks s (length nodes)) ≡ 0) where
+    rest : firstMet (stepChecks s nodes j a b) ≡ firstMet (
+        (someOutside (nodesOf s) (j ∷ a ∷ b ∷ []) gives 4)
+        ∷ (not (areRelated (familyOf (s .family)) (s .k) a b j) gives 10)
+        ∷ (isLive (s .live) j gives 11)
+        ∷ (someMissing (s .live) (a ∷ b ∷ []) gives 12)
+        ∷ [])
+    unfolding stepChecks
+    rest = none-append (nodesChecks s (length nodes)) _ (nodes-none s (length nodes) e)
+
+    pub step-4-node : outsideOf j ≡ true → firstMet (stepChecks s nodes j a b) ≡ 4
+    unfolding firstMet someOutside
+    step-4-node o = rest ∙ rw o
+
+    module _ (oj : outsideOf j ≡ false) where
+      pub step-4-first : outsideOf a ≡ true → firstMet (stepChecks s nodes j a b) ≡ 4
+      unfolding firstMet someOutside
+      step-4-first o = rest ∙ rw (oj, o)
+
+      module _ (oa : outsideOf a ≡ false) where
+        pub step-4-second : outsideOf b ≡ true → firstMet (stepChecks s nodes j a b) ≡ 4
+        unfolding firstMet someOutside
+        step-4-second o = rest ∙ rw (oj, oa, o)
+
+        module _ (ob : outsideOf b ≡ false) where
+          pub step-10 : areRelated (familyOf (s .family)) (s .k) a b j ≡ false → firstMet (stepChecks s nodes j a b) ≡ 10
+          unfolding firstMet someOutside
+          step-10 r = rest ∙ rw (oj, oa, ob, r)
+
+          module _ (r : areRelated (familyOf (s .family)) (s .k) a b j ≡ true) where
+            pub step-11 : isLive (s .live) j ≡ true → firstMet (stepChecks s nodes j a b) ≡ 11
+            unfolding firstMet someOutside
+            step-11 l = rest ∙ rw (oj, oa, ob, r, l)
+
+            module _ (lj : isLive (s .live) j ≡ false) where
+              pub step-12-first : isLive (s .live) a ≡ false → firstMet (stepChecks s nodes j a b) ≡ 12
+              unfolding firstMet someOutside someMissing
+              step-12-first l = rest ∙ rw (oj, oa, ob, r, lj, l)
+
+              pub step-12-second : isLive (s .live) a ≡ true → isLive (s .live) b ≡ false → firstMet (stepChecks s nodes j a b) ≡ 12
+              unfolding firstMet someOutside someMissing
+              step-12-second l m = rest ∙ rw (oj, oa, ob, r, lj, l, m)
+
+              pub step-0 : isLive (s .live) a ≡ true → isLive (s .live) b ≡ true → firstMet (stepChecks s nodes j a b) ≡ 0
+              unfolding firstMet someOutside someMissing
+              step-0 l m = rest ∙ rw (oj, oa, ob, r, lj, l, m)
+
+  -- ---- what a step gives
+
+  pub record Gives (answer : Stepped) (after : List ℕ) : Type 0 where
+    pub answer-is : answer ≡ stepped s nodes j a b
+    pub nodes-are : after ≡ nodesStepped s nodes j a b
+
+  pub step-refused : (number : ℕ) → number ≡ firstMet (stepChecks s nodes j a b) → (number ≡ 0 → ⊥) → Gives (record { refusal = number; session = s }) nodes
+  unfolding stepped nodesStepped
+  step-refused number e h =
+      let n = ne-eqb (firstMet (stepChecks s nodes j a b)) 0 (λ z. h (e ∙ z)) in
+      record { answer-is = rw (n, e); nodes-are = rw n }
+
+  pub step-made : firstMet (stepChecks s nodes j a b) ≡ 0 → Gives (record { refusal = 0; session = withLive s (j ∷ []) }) (mended (s .len) nodes j a b)
+  unfolding stepped nodesStepped
+  step-made e = record { answer-is = rw e; nodes-are = rw e }
+
+  -- ---- what acceptance says
+
+  -- the step as one of a plan's would be
+  abbrev pub asStep : Step
+  asStep = record { round = 0; node = j; smaller = a; larger = b }
+
+  pub record Accepted : Type 0 where
+    pub buffer : Sized s (length nodes)
+    pub session : Known s
+    pub makes : CanMake (familyOf (s .family)) (s .k) (s .live) asStep
+
+  pub node-of : (i : ℕ) → outsideOf i ≡ false → IsNode (familyOf (s .family)) (s .k) i
+  node-of i o = let p = inside 1 (nodesOf s) i o in record { first = p .0; last = p .1 }
+
+  pub step-accepted : firstMet (stepChecks s nodes j a b) ≡ 0 → Accepted
+  unfolding stepChecks nodesChecks someOutside someMissing
+  step-accepted e =
+      let n = accepted (stepChecks s nodes j a b) refl e in
+      let size : Sized s (length nodes) = record { starts = n .0; size = eqb-true _ _ (not-false _ (n .1 .0)) } in
+      let o = or-neither (outsideOf j) (outsideOf a || (outsideOf b || false)) (n .1 .1 .0) in
+      let p = or-neither (outsideOf a) (outsideOf b || false) (o .1) in
+      let q = or-neither (outsideOf b) false (p .1) in
+      let m = or-neither (not (isLive (s .live) a)) (not (isLive (s .live) b) || false) (n .1 .1 .1 .1 .1 .0) in
+      let l = or-neither (not (isLive (s .live) b)) false (m .1) in
+      record {
+        buffer = size;
+        session = known s (size .starts);
+        makes =
+            record {
+              node = node-of j (o .0);
+              smaller = node-of a (p .0);
+              larger = node-of b (q .0);
+              related = not-false _ (n .1 .1 .1 .0);
+              missing = n .1 .1 .1 .1 .0;
+              smaller-live = not-false _ (m .0);
+              larger-live = not-false _ (l .0);
+            };
+      }
+
+  -- the three blocks lie in the nodes buffer, the one to repair apart from the two others
+  pub step-blocks : Accepted → StepIn (s .len) nodes asStep
+  step-blocks w = step-in (familyOf (s .family)) (s .k) (w .session .range .blocks) (s .len) nodes (w .buffer .size) (s .live) asStep (w .makes)

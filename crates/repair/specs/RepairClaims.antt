@@ -1,0 +1,52 @@
+-- What is proved of steps and runs besides their own equations and demand 3; proofs/RepairsProved.antt has the proofs.
+use mathlib.Core.Path.{_≡_}
+use mathlib.Core.Bool.{true}
+use mathlib.Core.List.{List, map}
+use Prim.Native.Nat.{ℕ, _*_}
+use lib.ListN.{length}
+use Rattle.families.specs.Families.{familyOf, IsNode, columnOf}
+use Rattle.blocks.specs.Blocks.{blockOf}
+use Rattle.checks.specs.Checks.{firstMet}
+use Rattle.encoding.specs.Matrix.{nodeBlock}
+use Rattle.lists.specs.Lists.{isLive}
+use Rattle.planning.specs.Pairs.{NoPairLeft}
+use Rattle.planning.specs.Plan.{Step}
+use Rattle.repair.specs.declared.Session.{Session}
+use Rattle.repair.specs.Repairs.{planIn, runChecks, ran, nodesRan}
+use Rattle.repair.specs.ReadOut.{readOutChecks, objectOut}
+use Rattle.repair.specs.Calls.{Move, step, Held, heldAfter}
+
+-- ---- run and the plan's steps
+
+-- a plan's step as a call
+abbrev pub asMove : Step → Move
+asMove made = step (made .node) (made .smaller) (made .larger)
+
+-- an accepted run is the plan's steps made one after the other
+abbrev pub RunIsStepsClaim : Type 0
+RunIsStepsClaim = (s : Session) → length (s .live) ≡ 256 → (nodes : List ℕ) → firstMet (runChecks s nodes) ≡ 0
+    → heldAfter s nodes (map asMove (planIn s)) ≡ record { session = ran s nodes .session; nodes = nodesRan s nodes }
+
+-- after an accepted run no missing node has a related pair with both nodes live
+abbrev pub RunEndsClaim : Type 0
+RunEndsClaim = (s : Session) → length (s .live) ≡ 256 → (nodes : List ℕ) → firstMet (runChecks s nodes) ≡ 0
+    → NoPairLeft (familyOf (s .family)) (s .k) (isLive (ran s nodes .session .live))
+
+-- ---- the object's own blocks (demand 2)
+
+-- every live block is the one that the matrix gives for the object
+abbrev pub LiveAreOwn : List ℕ → Session → List ℕ → Type 0
+LiveAreOwn object s nodes =
+    (j : ℕ) → IsNode (familyOf (s .family)) (s .k) j → isLive (s .live) j ≡ true
+    → blockOf (s .len) nodes j ≡ nodeBlock (s .k) (s .len) object (columnOf (familyOf (s .family)) (s .k) j)
+
+-- once session and buffer have gone through a list of steps and runs, every live block is the object's, and what is read out,
+-- where that is accepted, is the object
+pub record OwnClaims (object : List ℕ) (s : Session) (nodes : List ℕ) (moves : List Move) : Type 0 where
+  pub live : LiveAreOwn object (heldAfter s nodes moves .session) (heldAfter s nodes moves .nodes)
+  pub out : (result : List ℕ) → firstMet (readOutChecks (heldAfter s nodes moves .session) (heldAfter s nodes moves .nodes) result) ≡ 0
+      → objectOut (heldAfter s nodes moves .session) (heldAfter s nodes moves .nodes) result ≡ object
+
+abbrev pub OwnClaim : Type 0
+OwnClaim = (object : List ℕ) (s : Session) (nodes : List ℕ) → length (s .live) ≡ 256 → length object ≡ s .k * s .len → LiveAreOwn object s nodes
+    → (moves : List Move) → OwnClaims object s nodes moves

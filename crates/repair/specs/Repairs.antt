@@ -1,0 +1,60 @@
+-- Plan and run (document 01, "The session"): the plan of a session, listed, and carried out on a nodes buffer.
+use Prim.Native.Nat.{ℕ, _*_}
+use mathlib.Core.Bool.{Bool, cond}
+use mathlib.Core.List.{List, [], _∷_, _++_}
+use lib.ListN.{length, drop}
+use lib.Dec.{eqb, ltb}
+use Rattle.families.specs.Families.{familyOf}
+use Rattle.checks.specs.Checks.{Check, _gives_, firstMet}
+use Rattle.planning.specs.Plan.{Step, planOf, repairedNodes, marksAfter, stepBytes, lastRound, nodesLeft}
+use Rattle.planning.specs.Made.{nodesMade}
+use Rattle.repair.specs.declared.Session.{Session}
+use Rattle.repair.specs.declared.Repairs.{Repairs}
+use Rattle.repair.specs.Session.{nodesOf, noStart, nodesChecks}
+use Rattle.repair.specs.Step.{withLive}
+
+-- the plan of a session
+abbrev pub planIn : Session → List Step
+planIn s = planOf (familyOf (s .family)) (s .k) (s .live)
+
+-- steps, rounds and nodes left of a session's plan, with the session that is handed back
+abbrev pub repairsOf : Session → Session → Repairs
+repairsOf s next =
+    record {
+      refusal = 0;
+      steps = length (planIn s);
+      rounds = lastRound (planIn s);
+      left = nodesLeft (marksAfter (s .live) (planIn s)) (nodesOf s);
+      session = next;
+    }
+
+-- a refusal: its number and zeros, the session as handed in
+abbrev pub refusedRepairs : Session → ℕ → Repairs
+refusedRepairs s number = record { refusal = number; steps = 0; rounds = 0; left = 0; session = s }
+
+-- Plan: 13, then 6 for a destination under four bytes a step
+unfoldable pub planChecks : Session → List ℕ → List Check
+planChecks s out = (noStart s gives 13) ∷ (ltb (length out) (4 * length (planIn s)) gives 6) ∷ []
+
+-- what a plan gives: the session stays
+unfoldable pub planned : Session → List ℕ → Repairs
+planned s out =
+    cond (eqb (firstMet (planChecks s out)) 0) (repairsOf s s) (refusedRepairs s (firstMet (planChecks s out)))
+
+-- the destination afterwards: four bytes a step; beyond them it is not written
+unfoldable pub outPlanned : Session → List ℕ → List ℕ
+outPlanned s out =
+    cond (eqb (firstMet (planChecks s out)) 0) (stepBytes (planIn s) ++ drop (4 * length (planIn s)) out) out
+
+-- Run: 13, 6
+unfoldable pub runChecks : Session → List ℕ → List Check
+runChecks s nodes = nodesChecks s (length nodes)
+
+-- what a run gives: the next session has the repaired nodes live
+unfoldable pub ran : Session → List ℕ → Repairs
+ran s nodes =
+    cond (eqb (firstMet (runChecks s nodes)) 0) (repairsOf s (withLive s (repairedNodes (planIn s)))) (refusedRepairs s (firstMet (runChecks s nodes)))
+
+-- the nodes buffer afterwards: the plan's steps made; places of nodes left keep their bytes
+unfoldable pub nodesRan : Session → List ℕ → List ℕ
+nodesRan s nodes = cond (eqb (firstMet (runChecks s nodes)) 0) (nodesMade (s .len) nodes (planIn s)) nodes

@@ -1,0 +1,69 @@
+// Plan: the repairs of a session, listed.
+use crate::Repairs;
+use crate::Session;
+use planning::Planned;
+ghost use mathlib.Core.Path.{_≡_};
+ghost use mathlib.Core.Bool.{false};
+ghost use mathlib.Core.List.{_++_};
+ghost use Prim.Native.Nat.{_*_, _≤_};
+ghost use lib.ListN.{length, drop};
+ghost use Rattle.families.specs.Families.{familyOf};
+ghost use Rattle.planning.specs.Plan.{stepBytes};
+ghost use Rattle.planning.specs.Planned.{plannedOf};
+ghost use Rattle.repair.specs.Session.{noStart};
+ghost use Rattle.repair.specs.Repairs.{planIn, refusedRepairs, planned, outPlanned};
+
+// Room for a step for each of 255 nodes, four bytes a step.
+pub fn no_steps() -> [u8; 1020] {
+    [0u8; 1020]
+}
+
+impl Session {
+    // A refused plan or run.
+    pub fn no_repairs(self, number: u8) -> Repairs
+        ensures { λ r. ⌜ r ≡ refusedRepairs self number ⌝ }
+    {
+        Repairs {
+            refusal: number,
+            steps: 0,
+            rounds: 0,
+            left: 0,
+            session: self,
+        }
+    }
+
+    // The plan, made aside in a list with room for every step.
+    pub fn draw_up(self, steps: &mut [u8]) -> Planned
+        requires { ⌜ (noStart self ≡ false) × (length (now steps) ≡ 1020) ⌝ }
+        ensures { λ r. ⌜ (r ≡ plannedOf (familyOf (self .family)) (self .k) (self .live)) × (r .steps ≤ 255) ⌝ }
+        ensures { λ _. ⌜ now (steps .exit) ≡ stepBytes (planIn self) ++ drop (4 * length (planIn self)) (now (steps .entry)) ⌝ }
+    {
+        let family = families::family_of(self.family);
+        let live = self.live;
+        planning::rounds::make_plan(family, self.k, live, steps)
+    }
+
+    // The plan's steps, four bytes each. Whether the destination is long enough is known before a byte of it is written.
+    pub fn plan(self, out: &mut [u8]) -> Repairs
+        ensures { λ r. ⌜ r ≡ planned self (now (out .entry)) ⌝ }
+        ensures { λ _. ⌜ now (out .exit) ≡ outPlanned self (now (out .entry)) ⌝ }
+    {
+        if self.has_no_start() {
+            return self.no_repairs(13);
+        }
+        let mut steps = no_steps();
+        let made = self.draw_up(&mut steps);
+        let needed = 4 * made.steps;
+        if out.len() < needed {
+            return self.no_repairs(6);
+        }
+        blocks::copy_block(&mut out[0..needed], &steps[0..needed]);
+        Repairs {
+            refusal: 0,
+            steps: made.steps,
+            rounds: made.rounds,
+            left: made.left,
+            session: self,
+        }
+    }
+}
