@@ -35,51 +35,51 @@ module _ (s : Session) (nodes : List ℕ) (j a b : ℕ) where
 
   -- 13 and 6 are not met
   module _ (e : firstMet (nodesChecks s (length nodes)) ≡ 0) where
-    rest : firstMet (stepChecks s nodes j a b) ≡ firstMet (
+    pub step-rest : firstMet (stepChecks s nodes j a b) ≡ firstMet (
         (someOutside (nodesOf s) (j ∷ a ∷ b ∷ []) gives 4)
         ∷ (not (areRelated (familyOf (s .family)) (s .k) a b j) gives 10)
         ∷ (isLive (s .live) j gives 11)
         ∷ (someMissing (s .live) (a ∷ b ∷ []) gives 12)
         ∷ [])
     unfolding stepChecks
-    rest = none-append (nodesChecks s (length nodes)) _ (nodes-none s (length nodes) e)
+    step-rest = none-append (nodesChecks s (length nodes)) _ (nodes-none s (length nodes) e)
 
     pub step-4-node : outsideOf j ≡ true → firstMet (stepChecks s nodes j a b) ≡ 4
     unfolding firstMet someOutside
-    step-4-node o = rest ∙ rw o
+    step-4-node o = step-rest ∙ rw o
 
     module _ (oj : outsideOf j ≡ false) where
       pub step-4-first : outsideOf a ≡ true → firstMet (stepChecks s nodes j a b) ≡ 4
       unfolding firstMet someOutside
-      step-4-first o = rest ∙ rw (oj, o)
+      step-4-first o = step-rest ∙ rw (oj, o)
 
       module _ (oa : outsideOf a ≡ false) where
         pub step-4-second : outsideOf b ≡ true → firstMet (stepChecks s nodes j a b) ≡ 4
         unfolding firstMet someOutside
-        step-4-second o = rest ∙ rw (oj, oa, o)
+        step-4-second o = step-rest ∙ rw (oj, oa, o)
 
         module _ (ob : outsideOf b ≡ false) where
           pub step-10 : areRelated (familyOf (s .family)) (s .k) a b j ≡ false → firstMet (stepChecks s nodes j a b) ≡ 10
           unfolding firstMet someOutside
-          step-10 r = rest ∙ rw (oj, oa, ob, r)
+          step-10 r = step-rest ∙ rw (oj, oa, ob, r)
 
           module _ (r : areRelated (familyOf (s .family)) (s .k) a b j ≡ true) where
             pub step-11 : isLive (s .live) j ≡ true → firstMet (stepChecks s nodes j a b) ≡ 11
             unfolding firstMet someOutside
-            step-11 l = rest ∙ rw (oj, oa, ob, r, l)
+            step-11 l = step-rest ∙ rw (oj, oa, ob, r, l)
 
             module _ (lj : isLive (s .live) j ≡ false) where
               pub step-12-first : isLive (s .live) a ≡ false → firstMet (stepChecks s nodes j a b) ≡ 12
               unfolding firstMet someOutside someMissing
-              step-12-first l = rest ∙ rw (oj, oa, ob, r, lj, l)
+              step-12-first l = step-rest ∙ rw (oj, oa, ob, r, lj, l)
 
               pub step-12-second : isLive (s .live) a ≡ true → isLive (s .live) b ≡ false → firstMet (stepChecks s nodes j a b) ≡ 12
               unfolding firstMet someOutside someMissing
-              step-12-second l m = rest ∙ rw (oj, oa, ob, r, lj, l, m)
+              step-12-second l m = step-rest ∙ rw (oj, oa, ob, r, lj, l, m)
 
               pub step-0 : isLive (s .live) a ≡ true → isLive (s .live) b ≡ true → firstMet (stepChecks s nodes j a b) ≡ 0
               unfolding firstMet someOutside someMissing
-              step-0 l m = rest ∙ rw (oj, oa, ob, r, lj, l, m)
+              step-0 l m = step-rest ∙ rw (oj, oa, ob, r, lj, l, m)
 
   -- ---- what a step gives
 
