@@ -110,45 +110,25 @@ refused box j a b number e start some gives-it = (
       (sym (r .answer-is), sym (r .nodes-are))),
 )
 
+-- one row, and the others
+infixr 5 _&_
+_&_ : {A B : Type 0} → A → B → A × B
+a & b = (a, b)
+
 pub examples : Examples
 unfolding encodeAnswer encoded encodeChecks parameterChecks firstMet nodesBuffer nodeBlocks nodeBlock dataBlock columnOf nodeCount xorBytes started startChecks checkedBox boxChecks someOutside rises setLive noStart liveOutside someLive planOf roundsFrom stepsFrom isRepaired smallerNode largerNode firstFrom areRelated smallerAt largerAt stepBytes lastRound nodesLeft countFrom liveFrom someMissing
-examples = (
-  (λ buffer e. (rw e, rw e)),
-  (
-    has-plan _ _ _ _ refl refl,
-    (
-      has-plan _ _ _ _ refl refl,
-      (
-        has-plan _ _ _ _ refl refl,
-        (
-          has-plan _ _ _ _ refl refl,
-          (
-            has-plan _ _ _ _ refl refl,
-            (
-              has-plan _ _ _ _ refl refl,
-              (
-                has-plan _ _ _ _ refl refl,
-                (
-                  refused sampleBox 6 1 7 12 refl refl (λ z. omega arith) refl,
-                  (
-                    refused sampleBox 4 1 5 11 refl refl (λ z. omega arith) refl,
-                    (
-                      refused sampleBox 1 4 7 10 refl refl (λ z. omega arith) refl,
-                      (
-                        has-plan _ _ _ _ refl refl,
-                        (
-                          has-plan _ _ _ _ refl refl,
-                          tt,
-                        ),
-                      ),
-                    ),
-                  ),
-                ),
-              ),
-            ),
-          ),
-        ),
-      ),
-    ),
-  ),
-)
+examples =
+    (λ buffer e. (rw e, rw e))
+    & has-plan _ _ _ _ refl refl
+    & has-plan _ _ _ _ refl refl
+    & has-plan _ _ _ _ refl refl
+    & has-plan _ _ _ _ refl refl
+    & has-plan _ _ _ _ refl refl
+    & has-plan _ _ _ _ refl refl
+    & has-plan _ _ _ _ refl refl
+    & refused sampleBox 6 1 7 12 refl refl (λ z. omega arith) refl
+    & refused sampleBox 4 1 5 11 refl refl (λ z. omega arith) refl
+    & refused sampleBox 1 4 7 10 refl refl (λ z. omega arith) refl
+    & has-plan _ _ _ _ refl refl
+    & has-plan _ _ _ _ refl refl
+    & tt
