@@ -16,6 +16,7 @@ use Rattle.families.specs.Families.{KInRange, IsNode, nodeCount}
 use Rattle.families.proofs.Laws.{few}
 use Rattle.lists.specs.Lists.{isLive, setLive, liveFrom, liveNodes}
 use Rattle.lists.proofs.Laws.{length-setLive}
+use Rattle.lists.proofs.MarkLaws.{set-keeps}
 use Rattle.planning.specs.Claims.{CanMake, CanMakeAll}
 use Rattle.planning.specs.Pairs.{smallerNode}
 use Rattle.planning.specs.Plan.{Step, isRepaired, stepOf, stepsFrom, roundSteps, repairedNodes, marksAfter, countFrom, nodesLeft}
@@ -25,19 +26,6 @@ use Rattle.planning.proofs.PairLaws.{PairOf, pair-of}
 
 pub length-marksAfter : (marks : List Bool) (steps : List Step) → length (marksAfter marks steps) ≡ length marks
 length-marksAfter marks steps = length-setLive marks (repairedNodes steps)
-
--- a live mark stays live
-set-keeps : (marks : List Bool) (i j : ℕ) → isLive marks j ≡ true → isLive (set marks i true) j ≡ true
-set-keeps [] i j h = h
-set-keeps (x ∷ marks) zero zero h = refl
-set-keeps (x ∷ marks) zero (suc j) h = h
-set-keeps (x ∷ marks) (suc i) zero h = h
-set-keeps (x ∷ marks) (suc i) (suc j) h = set-keeps marks i j h
-
-pub can-make-keeps : (marks : List Bool) (steps : List Step) (j : ℕ) → isLive marks j ≡ true → isLive (marksAfter marks steps) j ≡ true
-unfolding setLive
-can-make-keeps marks [] j h = h
-can-make-keeps marks (x ∷ steps) j h = can-make-keeps (set marks (x .node) true) steps j (set-keeps marks (x .node) j h)
 
 pub can-make-append : (f : Family) (k : ℕ) (marks : List Bool) (s t : List Step) → CanMakeAll f k marks s → CanMakeAll f k (marksAfter marks s) t → CanMakeAll f k marks (s ++ t)
 unfolding setLive

@@ -3,7 +3,7 @@
 use mathlib.Core.Path.{_≡_, refl, sym, ap, ap₂, _∙_}
 use mathlib.Core.Bool.{Bool, true, false, cond, not, _&&_}
 use mathlib.Core.Logic.{_⊎_, inl, inr}
-use mathlib.Core.List.{List, [], _∷_, _++_, append-assoc, append-nil, map}
+use mathlib.Core.List.{List, [], _∷_, _++_, append-assoc, append-nil, map, map-append}
 use Prim.Native.Nat.{ℕ, zero, suc, _+_, _-_, _*_, _≤_, _<_}
 use native.Mathlib.Nat.{add-zero, sub-zero, eq-zero-or-pos}
 use native.Mathlib.Omega.{arith}
@@ -19,6 +19,7 @@ use Rattle.families.specs.Families.{KInRange, IsNode, nodeCount, firstFrom}
 use Rattle.families.proofs.First.{found}
 use Rattle.families.proofs.Laws.{few}
 use Rattle.lists.specs.Lists.{isLive, setLive}
+use Rattle.lists.proofs.MarkLaws.{live-append}
 use Rattle.planning.specs.Pairs.{smallerNode, largerNode}
 use Rattle.planning.specs.Plan.{Step, isRepaired, stepOf, stepsFrom, roundSteps, repairedNodes, marksAfter, stepBytes}
 use Rattle.planning.specs.Search.{nextNode, repairOf}
@@ -38,9 +39,7 @@ length-bytes [] = refl
 length-bytes (x ∷ s) = omega (arith, length-bytes s)
 
 pub marks-append : (marks : List Bool) (s t : List Step) → marksAfter marks (s ++ t) ≡ marksAfter (marksAfter marks s) t
-unfolding setLive
-marks-append marks [] t = refl
-marks-append marks (x ∷ s) t = marks-append (set marks (x .node) true) s t
+marks-append marks s t = ap (setLive marks) (map-append (λ (step : Step). step .node) s t) ∙ live-append marks (repairedNodes s) (repairedNodes t)
 
 -- ---- the next repair
 

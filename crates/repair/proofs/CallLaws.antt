@@ -2,45 +2,44 @@
 -- each of these was reached from the start's list.
 -- Assumes nothing.
 use mathlib.Core.Path.{_≡_, refl, sym, ap, _∙_}
-use mathlib.Core.Bool.{Bool, true, false, cond, not}
+use mathlib.Core.Bool.{Bool, true, false, cond}
 use mathlib.Core.List.{List, [], _∷_, _++_, append-nil}
-use Prim.Native.Nat.{ℕ, zero, suc, _<_}
+use Prim.Native.Nat.{ℕ, _<_}
 use native.Mathlib.Omega.{arith}
-use borrow.Author.Tests.{eqb-true, eqb-false, not-false}
+use borrow.Author.Tests.{eqb-true, eqb-false}
 use lib.Dec.{eqb}
 use lib.ListN.{length, getD}
-use Rattle.base.proofs.Tests.{or-neither}
 use Rattle.families.specs.Families.{familyOf, KInRange, IsNode, nodeCount}
 use Rattle.checks.specs.Checks.{firstMet}
-use Rattle.checks.specs.Parameters.{parameterChecks}
-use Rattle.checks.proofs.Laws.{accepted, range-of}
-use Rattle.lists.specs.Lists.{noneLive, isLive, setLive, someMissing}
+use Rattle.lists.specs.Lists.{noneLive, setLive}
 use Rattle.lists.proofs.Laws.{outside-none}
-use Rattle.planning.specs.Plan.{repairedNodes, marksAfter, nodesLeft}
-use Rattle.leftover.proofs.Reached.{repaired}
+use Rattle.lists.proofs.MarkLaws.{live-append}
+use Rattle.planning.specs.Plan.{Step, repairedNodes, marksAfter, nodesLeft}
 use Rattle.repair.specs.declared.Session.{Session}
 use Rattle.repair.specs.declared.Stepped.{Stepped}
 use Rattle.repair.specs.declared.Repairs.{Repairs}
-use Rattle.repair.specs.Session.{sessionOf, startChecks, started, nodesOf, nodesChecks}
+use Rattle.repair.specs.Session.{sessionOf, startChecks, started, nodesOf}
 use Rattle.repair.specs.Step.{stepChecks, withLive, stepped}
 use Rattle.repair.specs.Repairs.{planIn, repairsOf, refusedRepairs, planChecks, planned, runChecks, ran}
 use Rattle.repair.specs.Calls.{Move, step, run, Call, sessionAfter, sessionAfterAll, addedBy, liveAfter}
-use Rattle.repair.proofs.LeftOverLaws.{live-append, AllReached, Grown, grown-marked, grown-more, plan-reach}
+use Rattle.repair.proofs.StartLaws.{accepted-start}
+use Rattle.repair.proofs.StepLaws.{accepted-step}
+use Rattle.repair.proofs.LeftOverLaws.{AllReached, Grown, grown-marked, grown-more, steps-reach, plan-reach}
 
 -- ---- an accepted start
 
-pub record Accepted (family k L : ℕ) (list : List ℕ) : Type 0 where
+pub record FromStart (family k L : ℕ) (list : List ℕ) : Type 0 where
   pub range : KInRange (familyOf family) k
   pub nodes : (i : ℕ) → i < length list → IsNode (familyOf family) k (getD list i 0)
   pub session : started family k L list .session ≡ sessionOf family k L list
 
-pub accepted-start : (family k L : ℕ) (list : List ℕ) → firstMet (startChecks family k L list) ≡ 0 → Accepted family k L list
-unfolding startChecks parameterChecks started
-accepted-start family k L list e =
-    let n = accepted (startChecks family k L list) refl e in
+pub from-start : (family k L : ℕ) (list : List ℕ) → firstMet (startChecks family k L list) ≡ 0 → FromStart family k L list
+unfolding started
+from-start family k L list e =
+    let a = accepted-start family k L list e in
     record {
-      range = range-of family k L (n .0, (n .1 .0, (n .1 .1 .0, tt))) .blocks;
-      nodes = λ i h. let o = outside-none (nodeCount (familyOf family) k) list (n .1 .1 .1 .0) i h in record { first = o .0; last = o .1 };
+      range = a .range .blocks;
+      nodes = λ i h. let o = outside-none (nodeCount (familyOf family) k) list (a .outside) i h in record { first = o .0; last = o .1 };
       session = rw e;
     }
 
@@ -111,19 +110,11 @@ module _ (family k L : ℕ) where
     either-adds added false a = λ i h. absurd (omega arith)
 
     step-adds : (now : List ℕ) → Live now → (nodes : List ℕ) (j a b : ℕ) → firstMet (stepChecks (from now) nodes j a b) ≡ 0 → Adds (j ∷ [])
-    unfolding stepChecks nodesChecks someMissing
-    step-adds now g nodes j a b e zero h =
-        let marks : List Bool = setLive noneLive now in
-        let n = accepted (stepChecks (from now) nodes j a b) refl e in
-        let o = outside-none (nodeCount (familyOf family) k) (j ∷ a ∷ b ∷ []) (n .1 .1 .0) 0 (omega arith) in
-        let p = or-neither (not (isLive marks a)) (someMissing marks (b ∷ [])) (n .1 .1 .1 .1 .1 .0) in
-        let q = or-neither (not (isLive marks b)) false (p .1) in
-        let live = grown-marked (familyOf family) k list now g in
-        record {
-          node = record { first = o .0; last = o .1 };
-          reached = repaired (not-false _ (n .1 .1 .1 .0)) (live a (not-false _ (p .0))) (live b (not-false _ (q .0)));
-        }
-    step-adds now g nodes j a b e (suc i) h = absurd (omega arith)
+    step-adds now g nodes j a b e =
+        steps-reach (familyOf family) k list (made ∷ []) (setLive noneLive now) (grown-marked (familyOf family) k list now g) (accepted-step (from now) nodes made e .makes, tt)
+      where
+        made : Step
+        made = record { round = 0; node = j; smaller = a; larger = b }
 
     call-adds : (now : List ℕ) → Live now → (nodes : List ℕ) (move : Move) → Adds (addedBy (from now) nodes move)
     call-adds now g nodes (step j a b) =

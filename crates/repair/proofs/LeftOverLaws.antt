@@ -14,10 +14,10 @@ use Rattle.families.proofs.Laws.{few}
 use Rattle.checks.proofs.Laws.{outside-no}
 use Rattle.lists.specs.Lists.{someOutside, noneLive, isLive, setLive}
 use Rattle.lists.proofs.Laws.{length-setLive, live-of-list}
+use Rattle.lists.proofs.MarkLaws.{live-keeps, live-append}
 use Rattle.planning.specs.Claims.{CanMake, CanMakeAll, PlanClaims}
 use Rattle.planning.specs.Pairs.{NoPairLeft}
 use Rattle.planning.specs.Plan.{Step, planOf, repairedNodes, marksAfter, nodesLeft}
-use Rattle.planning.proofs.MakeLaws.{can-make-keeps}
 use Rattle.planning.proofs.Proved.{plan-claim}
 use Rattle.leftover.specs.Open.{OpenCount}
 use Rattle.leftover.proofs.Reached.{Reached, given, repaired, Ended}
@@ -44,17 +44,6 @@ each-outside : (n : ℕ) (list : List ℕ) → Each (λ j. (1 ≤ j) × (j ≤ n
 unfolding someOutside
 each-outside n [] p = refl
 each-outside n (x ∷ list) p = simp (outside-no 1 n x (p 0 (omega arith) .0) (p 0 (omega arith) .1), each-outside n list (λ i h. p (suc i) (omega arith)))
-
-pub live-append : (marks : List Bool) (a b : List ℕ) → setLive marks (a ++ b) ≡ setLive (setLive marks a) b
-unfolding setLive
-live-append marks [] b = refl
-live-append marks (x ∷ a) b = live-append (set marks x true) a b
-
--- a live mark stays live
-live-keeps : (marks : List Bool) (list : List ℕ) (j : ℕ) → isLive marks j ≡ true → isLive (setLive marks list) j ≡ true
-unfolding setLive
-live-keeps marks [] j h = h
-live-keeps marks (x ∷ list) j h = live-keeps (set marks x true) list j (can-make-keeps marks (record { round = 0; node = x; smaller = 0; larger = 0 } ∷ []) j h)
 
 -- each number of the list is live
 live-each : (marks : List Bool) (list : List ℕ) → Each (λ j. j < length marks) list → Each (λ j. isLive (setLive marks list) j ≡ true) list
@@ -124,7 +113,7 @@ module _ (f : Family) (k : ℕ) (list : List ℕ) where
   step-reach : (x : Step) (marks : List Bool) → Marked (Reached f k list) marks → CanMake f k marks x → Reached f k list (x .node)
   step-reach x marks p c = repaired (c .related) (p (x .smaller) (c .smaller-live)) (p (x .larger) (c .larger-live))
 
-  steps-reach : (steps : List Step) (marks : List Bool) → Marked (Reached f k list) marks → CanMakeAll f k marks steps → AllReached (repairedNodes steps)
+  pub steps-reach : (steps : List Step) (marks : List Bool) → Marked (Reached f k list) marks → CanMakeAll f k marks steps → AllReached (repairedNodes steps)
   steps-reach [] marks p c i h = absurd (omega arith)
   steps-reach (x ∷ steps) marks p c zero h = record { node = c .0 .node; reached = step-reach x marks p (c .0) }
   steps-reach (x ∷ steps) marks p c (suc i) h =

@@ -6,24 +6,21 @@ use mathlib.Core.List.{List, [], _∷_, map}
 use Prim.Native.Nat.{ℕ, zero, suc, _+_, _-_, _*_, _≤_, _<_}
 use native.Mathlib.Decide.{ℕ-discrete}
 use native.Mathlib.Omega.{arith}
-use borrow.Author.Tests.{eqb-true, eq-eqb, not-false}
+use borrow.Author.Tests.{eqb-true, not-false}
 use lib.Dec.{eqb}
 use lib.ListN.{length, set, length-set}
 use lib.Seq.{getD-set-other}
-use Rattle.base.proofs.Tests.{or-neither}
 use Rattle.families.specs.Families.{familyOf, IsNode, columnOf}
 use Rattle.blocks.specs.Blocks.{xorBytes, blockOf, InBuffer}
 use Rattle.blocks.proofs.BlockLaws.{in-buffer, blockOf-same, blockOf-other}
 use Rattle.blocks.proofs.PartLaws.{length-blockOf}
 use Rattle.blocks.proofs.XorBytes.{length-xorBytes}
-use Rattle.checks.specs.Checks.{Check, firstMet}
-use Rattle.checks.proofs.Laws.{accepted, outside-no}
+use Rattle.checks.specs.Checks.{firstMet}
+use Rattle.checks.proofs.Laws.{accepted}
 use Rattle.encoding.specs.Matrix.{nodeBlock, nodesBuffer}
 use Rattle.encoding.proofs.Nodes.{related-block, buffer-block}
-use Rattle.lists.specs.Lists.{someOutside, isLive, setLive, someMissing, someLive, liveOutside}
-use Rattle.lists.proofs.Laws.{outside-none}
-use Rattle.boxes.proofs.Answers.{none-zero}
-use Rattle.planning.specs.Claims.{CanMake, CanMakeAll}
+use Rattle.lists.specs.Lists.{isLive, setLive, someLive, liveOutside}
+use Rattle.planning.specs.Claims.{CanMakeAll}
 use Rattle.planning.specs.Made.{mended, nodesMade}
 use Rattle.planning.specs.Plan.{Step, repairedNodes}
 use Rattle.planning.proofs.CarryLaws.{length-mended}
@@ -38,6 +35,7 @@ use Rattle.repair.specs.Repairs.{planIn, runChecks, ran, nodesRan}
 use Rattle.repair.specs.Calls.{Move, step, run, sessionAfter, nodesAfter, Held, heldAfter}
 use Rattle.repair.specs.RepairClaims.{asMove, LiveAreOwn}
 use Rattle.repair.proofs.StartLaws.{Known, known, Sized, sized}
+use Rattle.repair.proofs.StepLaws.{AcceptedStep, accepted-step, step-accepted}
 use Rattle.repair.proofs.ReadOutLaws.{read}
 use Rattle.repair.proofs.ListedLaws.{first-zero, same-blocks}
 
@@ -58,81 +56,33 @@ start-kept s j n = rw (outside-kept (nodesOf s) (s .live) j (n .first) (n .last)
 
 -- ---- a step, accepted
 
--- its checks, and what it gives where none is met
-abbrev checksOf : Session → List ℕ → Step → List Check
-checksOf s nodes made = stepChecks s nodes (made .node) (made .smaller) (made .larger)
-
+-- what it gives
 abbrev sessionWith : Session → Step → Session
 sessionWith s made = withLive s (made .node ∷ [])
 
 abbrev nodesWith : Session → List ℕ → Step → List ℕ
 nodesWith s nodes made = mended (s .len) nodes (made .node) (made .smaller) (made .larger)
 
-module _ (s : Session) (nodes : List ℕ) (made : Step) where
-  -- what an accepted step says
-  record AcceptedStep : Type 0 where
-    buffer : Sized s (length nodes)
-    makes : CanMake (familyOf (s .family)) (s .k) (s .live) made
+module _ (s : Session) (nodes : List ℕ) (made : Step) (w : AcceptedStep s nodes made) where
+  session-stepped : stepped s nodes (made .node) (made .smaller) (made .larger) .session ≡ sessionWith s made
+  unfolding stepped
+  session-stepped = rw (step-accepted s nodes made w)
 
-  accepted-step : firstMet (checksOf s nodes made) ≡ 0 → AcceptedStep
-  unfolding stepChecks nodesChecks someMissing
-  accepted-step e =
-      let n = accepted (checksOf s nodes made) refl e in
-      let inside = outside-none (nodesOf s) (made .node ∷ made .smaller ∷ made .larger ∷ []) (n .1 .1 .0) in
-      let j = inside 0 (omega arith) in
-      let a = inside 1 (omega arith) in
-      let b = inside 2 (omega arith) in
-      let both = or-neither (not (isLive (s .live) (made .smaller))) _ (n .1 .1 .1 .1 .1 .0) in
+  nodes-stepped : nodesStepped s nodes (made .node) (made .smaller) (made .larger) ≡ nodesWith s nodes made
+  unfolding nodesStepped
+  nodes-stepped = rw (step-accepted s nodes made w)
+
+  -- its blocks
+  in-nodes : (i : ℕ) → IsNode (familyOf (s .family)) (s .k) i → InBuffer (s .len) nodes i
+  in-nodes i n = in-buffer (s .len) nodes (nodesOf s) i (w .buffer .size) (n .first) (n .last)
+
+  sized-stepped : Sized (sessionWith s made) (length (nodesWith s nodes made))
+  sized-stepped =
+      let m = w .makes in
       record {
-        buffer = record { starts = n .0; size = eqb-true _ _ (not-false _ (n .1 .0)) };
-        makes =
-            record {
-              node = record { first = j .0; last = j .1 };
-              smaller = record { first = a .0; last = a .1 };
-              larger = record { first = b .0; last = b .1 };
-              related = not-false _ (n .1 .1 .1 .0);
-              missing = n .1 .1 .1 .1 .0;
-              smaller-live = not-false _ (both .0);
-              larger-live = not-false _ (or-neither (not (isLive (s .live) (made .larger))) false (both .1) .0);
-            };
+        starts = start-kept s (made .node) (m .node) ∙ w .buffer .starts;
+        size = length-mended (in-nodes (made .node) (m .node)) (in-nodes (made .smaller) (m .smaller)) (in-nodes (made .larger) (m .larger)) ∙ w .buffer .size;
       }
-
-  module _ (w : AcceptedStep) where
-    step-accepted : firstMet (checksOf s nodes made) ≡ 0
-    unfolding stepChecks nodesChecks someOutside someMissing
-    step-accepted =
-        let m = w .makes in
-        let n : ℕ = nodesOf s in
-        none-zero (checksOf s nodes made) (
-          w .buffer .starts,
-          (
-            ap not (eq-eqb (length nodes) (n * s .len) (w .buffer .size)),
-            (
-              simp (outside-no 1 n (made .node) (m .node .first) (m .node .last), outside-no 1 n (made .smaller) (m .smaller .first) (m .smaller .last), outside-no 1 n (made .larger) (m .larger .first) (m .larger .last)),
-              (ap not (m .related), (m .missing, (simp (m .smaller-live, m .larger-live), tt))),
-            ),
-          ),
-        )
-
-    session-stepped : stepped s nodes (made .node) (made .smaller) (made .larger) .session ≡ sessionWith s made
-    unfolding stepped
-    session-stepped = rw step-accepted
-
-    nodes-stepped : nodesStepped s nodes (made .node) (made .smaller) (made .larger) ≡ nodesWith s nodes made
-    unfolding nodesStepped
-    nodes-stepped = rw step-accepted
-
-    -- its blocks
-    in-nodes : (i : ℕ) → IsNode (familyOf (s .family)) (s .k) i → InBuffer (s .len) nodes i
-    in-nodes i n = in-buffer (s .len) nodes (nodesOf s) i (w .buffer .size) (n .first) (n .last)
-
-    sized-stepped : Sized (sessionWith s made) (length (nodesWith s nodes made))
-    sized-stepped =
-        let m = w .makes in
-        record {
-          starts = start-kept s (made .node) (m .node) ∙ w .buffer .starts;
-          size = length-mended (in-nodes (made .node) (m .node)) (in-nodes (made .smaller) (m .smaller)) (in-nodes (made .larger) (m .larger)) ∙ w .buffer .size;
-        }
 
 -- ---- steps that can be made, one after the other
 

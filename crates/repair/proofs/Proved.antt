@@ -25,23 +25,12 @@ use Rattle.repair.specs.Session.{sessionOf, startChecks, nodesOf, noStar
 use Rattle.repair.specs.Boxed.{nodesRead, listed}
 use Rattle.repair.specs.ReadOut.{missingIn, readOutChecks}
 use Rattle.repair.specs.Claims.{FromStart, NoStartClaim, StartMarksClaim, boxWritten, WriteReadClaim, ReadWriteClaim, RoundTripClaim, BoxClaim, WrongCountClaim}
-use Rattle.repair.proofs.StartLaws.{known, start-0, no-start-marks}
+use Rattle.repair.proofs.StartLaws.{known, start-0, no-start-marks, accepted-start}
 use Rattle.repair.proofs.ReadOutLaws.{read}
 use Rattle.repair.proofs.RoundTripLaws.{live-good, accepted-write, box-checked, box-reads, bodies-read, again-all, again-named}
 use Rattle.repair.proofs.ListedLaws.{listed-blocks}
 
 -- ---- start
-
--- what an accepted start says
-record AcceptedStart (family k L : ℕ) (list : List ℕ) : Type 0 where
-  range : InRange family k L
-  outside : someOutside (nodeCount (familyOf family) k) list ≡ false
-
-accepted-start : (family k L : ℕ) (list : List ℕ) → firstMet (startChecks family k L list) ≡ 0 → AcceptedStart family k L list
-unfolding startChecks parameterChecks
-accepted-start family k L list e =
-    let n = accepted (startChecks family k L list) refl e in
-    record { range = range-of family k L (n .0, (n .1 .0, (n .1 .1 .0, tt))); outside = n .1 .1 .1 .0 }
 
 -- the start is that of the live nodes
 pub no-start-claim : NoStartClaim

@@ -13,7 +13,7 @@ use Rattle.families.proofs.Laws.{few, short}
 use Rattle.checks.specs.Checks.{Check, _gives_, firstMet}
 use Rattle.checks.specs.Claims.{NoneMet}
 use Rattle.checks.specs.Parameters.{parameterChecks}
-use Rattle.checks.proofs.Laws.{InRange, in-range, accepted, parameters-none, none-append, some-append}
+use Rattle.checks.proofs.Laws.{InRange, in-range, range-of, accepted, parameters-none, none-append, some-append}
 use Rattle.lists.specs.Lists.{someOutside, rises, listChecks, liveOutside}
 use Rattle.repair.specs.declared.Session.{Session}
 use Rattle.repair.specs.Session.{startChecks, nodesOf, noStart, nodesChecks}
@@ -33,6 +33,17 @@ module _ (family k L : ℕ) (list : List ℕ) where
     pub start-0 : someOutside (nodeCount (familyOf family) k) list ≡ false → rises list ≡ true → firstMet (startChecks family k L list) ≡ 0
     unfolding firstMet
     start-0 o r = start-on ∙ simp (o, r)
+
+-- what an accepted start says
+pub record AcceptedStart (family k L : ℕ) (list : List ℕ) : Type 0 where
+  pub range : InRange family k L
+  pub outside : someOutside (nodeCount (familyOf family) k) list ≡ false
+
+pub accepted-start : (family k L : ℕ) (list : List ℕ) → firstMet (startChecks family k L list) ≡ 0 → AcceptedStart family k L list
+unfolding startChecks parameterChecks
+accepted-start family k L list e =
+    let n = accepted (startChecks family k L list) refl e in
+    record { range = range-of family k L (n .0, (n .1 .0, (n .1 .1 .0, tt))); outside = n .1 .1 .1 .0 }
 
 -- ---- 13 and 6
 

@@ -5,16 +5,18 @@ use mathlib.Core.Bool.{Bool, true, false, cond, not, _||_}
 use mathlib.Core.List.{List, [], _∷_, _++_}
 use Prim.Native.Nat.{ℕ, _*_, _≤_}
 use native.Mathlib.Omega.{arith}
-use borrow.Author.Tests.{eqb-true, ne-eqb, not-false}
+use borrow.Author.Tests.{eqb-true, eq-eqb, ne-eqb, not-false}
 use lib.Dec.{eqb}
 use lib.ListN.{length}
 use Rattle.base.proofs.Tests.{or-neither}
-use Rattle.families.specs.Families.{familyOf, IsNode, areRelated}
+use Rattle.families.specs.Families.{familyOf, KInRange, IsNode, areRelated}
 use Rattle.checks.specs.Checks.{Check, _gives_, firstMet}
 use Rattle.checks.specs.Claims.{NoneMet}
 use Rattle.checks.specs.Parameters.{outside}
-use Rattle.checks.proofs.Laws.{inside, accepted, none-append, some-append}
+use Rattle.checks.proofs.Laws.{inside, outside-no, accepted, none-append, some-append}
 use Rattle.lists.specs.Lists.{someOutside, isLive, setLive, someMissing}
+use Rattle.lists.proofs.Laws.{outside-none}
+use Rattle.boxes.proofs.Answers.{none-zero}
 use Rattle.planning.specs.Plan.{Step}
 use Rattle.planning.specs.Made.{mended, StepIn}
 use Rattle.planning.specs.Claims.{CanMake}
@@ -23,7 +25,7 @@ use Rattle.repair.specs.declared.Session.{Session}
 use Rattle.repair.specs.declared.Stepped.{Stepped}
 use Rattle.repair.specs.Session.{nodesOf, noStart, nodesChecks}
 use Rattle.repair.specs.Step.{stepChecks, withLive, stepped, nodesStepped}
-use Rattle.repair.proofs.StartLaws.{Known, known, nodes-none, Sized}
+use Rattle.repair.proofs.StartLaws.{known, nodes-none, Sized}
 
 module _ (s : Session) (nodes : List ℕ) (j a b : ℕ) where
   abbrev outsideOf : ℕ → Bool
@@ -81,6 +83,9 @@ module _ (s : Session) (nodes : List ℕ) (j a b : ℕ) where
               unfolding firstMet someOutside someMissing
               step-0 l m = step-rest ∙ rw (oj, oa, ob, r, lj, l, m)
 
+  pub node-of : (i : ℕ) → outsideOf i ≡ false → IsNode (familyOf (s .family)) (s .k) i
+  node-of i h = let p = inside 1 (nodesOf s) i h in record { first = p .0; last = p .1 }
+
   -- ---- what a step gives
 
   pub record Gives (answer : Stepped) (after : List ℕ) : Type 0 where
@@ -97,45 +102,62 @@ module _ (s : Session) (nodes : List ℕ) (j a b : ℕ) where
   unfolding stepped nodesStepped
   step-made e = record { answer-is = rw e; nodes-are = rw e }
 
-  -- ---- what acceptance says
+-- ---- a step, accepted
 
-  -- the step as one of a plan's would be
-  abbrev pub asStep : Step
-  asStep = record { round = 0; node = j; smaller = a; larger = b }
+module _ (s : Session) (nodes : List ℕ) (made : Step) where
+  -- its checks
+  abbrev pub checksOf : List Check
+  checksOf = stepChecks s nodes (made .node) (made .smaller) (made .larger)
 
-  pub record Accepted : Type 0 where
+  -- what an accepted step says
+  pub record AcceptedStep : Type 0 where
     pub buffer : Sized s (length nodes)
-    pub session : Known s
-    pub makes : CanMake (familyOf (s .family)) (s .k) (s .live) asStep
+    pub makes : CanMake (familyOf (s .family)) (s .k) (s .live) made
 
-  pub node-of : (i : ℕ) → outsideOf i ≡ false → IsNode (familyOf (s .family)) (s .k) i
-  node-of i o = let p = inside 1 (nodesOf s) i o in record { first = p .0; last = p .1 }
-
-  pub step-accepted : firstMet (stepChecks s nodes j a b) ≡ 0 → Accepted
-  unfolding stepChecks nodesChecks someOutside someMissing
-  step-accepted e =
-      let n = accepted (stepChecks s nodes j a b) refl e in
-      let size : Sized s (length nodes) = record { starts = n .0; size = eqb-true _ _ (not-false _ (n .1 .0)) } in
-      let o = or-neither (outsideOf j) (outsideOf a || (outsideOf b || false)) (n .1 .1 .0) in
-      let p = or-neither (outsideOf a) (outsideOf b || false) (o .1) in
-      let q = or-neither (outsideOf b) false (p .1) in
-      let m = or-neither (not (isLive (s .live) a)) (not (isLive (s .live) b) || false) (n .1 .1 .1 .1 .1 .0) in
-      let l = or-neither (not (isLive (s .live) b)) false (m .1) in
+  pub accepted-step : firstMet checksOf ≡ 0 → AcceptedStep
+  unfolding stepChecks nodesChecks someMissing
+  accepted-step e =
+      let n = accepted checksOf refl e in
+      let inside = outside-none (nodesOf s) (made .node ∷ made .smaller ∷ made .larger ∷ []) (n .1 .1 .0) in
+      let j = inside 0 (omega arith) in
+      let a = inside 1 (omega arith) in
+      let b = inside 2 (omega arith) in
+      let both = or-neither (not (isLive (s .live) (made .smaller))) _ (n .1 .1 .1 .1 .1 .0) in
       record {
-        buffer = size;
-        session = known s (size .starts);
+        buffer = record { starts = n .0; size = eqb-true _ _ (not-false _ (n .1 .0)) };
         makes =
             record {
-              node = node-of j (o .0);
-              smaller = node-of a (p .0);
-              larger = node-of b (q .0);
+              node = record { first = j .0; last = j .1 };
+              smaller = record { first = a .0; last = a .1 };
+              larger = record { first = b .0; last = b .1 };
               related = not-false _ (n .1 .1 .1 .0);
               missing = n .1 .1 .1 .1 .0;
-              smaller-live = not-false _ (m .0);
-              larger-live = not-false _ (l .0);
+              smaller-live = not-false _ (both .0);
+              larger-live = not-false _ (or-neither (not (isLive (s .live) (made .larger))) false (both .1) .0);
             };
       }
 
-  -- the three blocks lie in the nodes buffer, the one to repair apart from the two others
-  pub step-blocks : Accepted → StepIn (s .len) nodes asStep
-  step-blocks w = step-in (familyOf (s .family)) (s .k) (w .session .range .blocks) (s .len) nodes (w .buffer .size) (s .live) asStep (w .makes)
+  module _ (w : AcceptedStep) where
+    -- and the other way round
+    pub step-accepted : firstMet checksOf ≡ 0
+    unfolding stepChecks nodesChecks someOutside someMissing
+    step-accepted =
+        let m = w .makes in
+        let n : ℕ = nodesOf s in
+        none-zero checksOf (
+          w .buffer .starts,
+          (
+            ap not (eq-eqb (length nodes) (n * s .len) (w .buffer .size)),
+            (
+              simp (outside-no 1 n (made .node) (m .node .first) (m .node .last), outside-no 1 n (made .smaller) (m .smaller .first) (m .smaller .last), outside-no 1 n (made .larger) (m .larger .first) (m .larger .last)),
+              (ap not (m .related), (m .missing, (simp (m .smaller-live, m .larger-live), tt))),
+            ),
+          ),
+        )
+
+    pub step-range : KInRange (familyOf (s .family)) (s .k)
+    step-range = known s (w .buffer .starts) .range .blocks
+
+    -- the three blocks lie in the nodes buffer, the one to repair apart from the two others
+    pub step-blocks : StepIn (s .len) nodes made
+    step-blocks = step-in (familyOf (s .family)) (s .k) step-range (s .len) nodes (w .buffer .size) (s .live) made (w .makes)

@@ -7,15 +7,16 @@ use Rattle.families.proofs.Laws.{few}
 use Rattle.checks.specs.Checks.{firstMet}
 use Rattle.lists.specs.Lists.{setLive}
 use Rattle.repair.specs.Step.{stepChecks}
-use Rattle.repair.proofs.StepLaws.{Accepted, step-refused, step-made, step-accepted, step-blocks}
+use Rattle.repair.proofs.StepLaws.{AcceptedStep, step-refused, step-made, accepted-step, step-range, step-blocks}
 use Rattle.repair.proofs.Session.step.Statement.{statement}
 use Rattle.repair.proofs.Session.step.Tie as tie
 
 passed : (c : tie.Else1) → firstMet (stepChecks (c .before .before .before .before .args .t1) (c .before .before .before .before .args .nodes .now) (c .before .before .before .before .args .node) (c .before .before .before .before .args .first) (c .before .before .before .before .args .second)) ≡ 0
 passed c = sym (c .before .step-refusal .ensures) ∙ c .if1 .left
 
-is-accepted : (c : tie.Else1) → Accepted (c .before .before .before .before .args .t1) (c .before .before .before .before .args .nodes .now) (c .before .before .before .before .args .node) (c .before .before .before .before .args .first) (c .before .before .before .before .args .second)
-is-accepted c = step-accepted (c .before .before .before .before .args .t1) (c .before .before .before .before .args .nodes .now) (c .before .before .before .before .args .node) (c .before .before .before .before .args .first) (c .before .before .before .before .args .second) (passed c)
+-- the step as one of a plan's would be
+is-accepted : (c : tie.Else1) → AcceptedStep (c .before .before .before .before .args .t1) (c .before .before .before .before .args .nodes .now) (record { round = 0; node = c .before .before .before .before .args .node; smaller = c .before .before .before .before .args .first; larger = c .before .before .before .before .args .second })
+is-accepted c = accepted-step _ _ _ (passed c)
 
 returns : tie.Need-returns
 returns c =
@@ -24,13 +25,13 @@ returns c =
 
 xor-block-requires : tie.Need-xor-block-requires
 xor-block-requires c κs =
-    let b = step-blocks (c .before .before .before .before .before .args .t1) (c .before .before .before .before .before .args .nodes .now) (c .before .before .before .before .before .args .node) (c .before .before .before .before .before .args .first) (c .before .before .before .before .before .args .second) (is-accepted (c .before)) in
+    let b = step-blocks _ _ _ (is-accepted (c .before)) in
     ((b .node, b .smaller, b .larger), (b .not-smaller, b .not-larger))
 
 element-write-self : tie.Need-element-write-self
 element-write-self c =
     let a = is-accepted (c .before .before .before .before) in
-    omega (arith, a .makes .node .last, few _ _ (a .session .range .blocks))
+    omega (arith, a .makes .node .last, few _ _ (step-range _ _ _ a))
 
 returns-2 : tie.Need-returns-2
 unfolding setLive
