@@ -1,2 +1,3 @@
 pub mod Exports
+pub mod Repairs
 pub mod Sessions

@@ -2,7 +2,7 @@
 // session with a byte above 1 is one that no start gives.
 use repair::Session;
 ghost use mathlib.Core.Path.{_≡_};
-ghost use Rattle.mogtriz.specs.Sessions.{byteOf, bytesOf, marksOf, someAbove1, sessionOfC, startedC, writtenC, outWrittenC, readOutC, objectOutC, partIn};
+ghost use Rattle.mogtriz.specs.Sessions.{byteOf, bytesOf, marksOf, someAbove1, sessionForC, sessionOfC, startedC, writtenC, outWrittenC, readOutC, objectOutC, partIn};
 ghost use Rattle.repair.specs.Session.{started};
 ghost use Rattle.repair.specs.Boxed.{checkedBox, readBox, nodesRead};
 
@@ -98,7 +98,7 @@ fn some_above_1(bytes: [u8; 256]) -> bool
 
 impl MarkedSession {
     // The session that C's is, where every byte is 0 or 1.
-    fn session(self) -> Session
+    pub fn session(self) -> Session
         ensures { λ r. ⌜ r ≡ sessionOfC self ⌝ }
     {
         let bytes = self.live;
@@ -111,11 +111,25 @@ impl MarkedSession {
         }
     }
 
-    fn has_other_marks(self) -> bool
+    pub fn has_other_marks(self) -> bool
         ensures { λ r. ⌜ r ≡ someAbove1 (self .live) ⌝ }
     {
         let bytes = self.live;
         some_above_1(bytes)
+    }
+}
+
+// The session for C, its marks as bytes.
+pub fn marked(session: Session) -> MarkedSession
+    ensures { λ r. ⌜ r ≡ sessionForC session ⌝ }
+{
+    let marks = session.live;
+    let bytes = bytes_of(marks);
+    MarkedSession {
+        family: session.family,
+        k: session.k,
+        len: session.len,
+        live: bytes,
     }
 }
 
@@ -124,16 +138,10 @@ fn for_c(answer: repair::Started) -> StartAnswer
     ensures { λ r. ⌜ r ≡ startedC answer ⌝ }
 {
     let session = answer.session;
-    let marks = session.live;
-    let bytes = bytes_of(marks);
+    let given = marked(session);
     StartAnswer {
         refusal: answer.refusal,
-        session: MarkedSession {
-            family: session.family,
-            k: session.k,
-            len: session.len,
-            live: bytes,
-        },
+        session: given,
     }
 }
 

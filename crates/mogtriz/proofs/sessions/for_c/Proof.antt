@@ -1,14 +1,13 @@
--- `mogtriz::sessions::for_c` meets its contract: the session is the same but for its marks, which are bytes.
--- Assumes nothing.
+-- `mogtriz::sessions::for_c` meets its contract: the session comes with its marks as bytes.
 -- Assumes nothing.
 use Rattle.mogtriz.proofs.sessions.for_c.Statement.{statement}
 use Rattle.mogtriz.proofs.sessions.for_c.Tie as tie
 
-bytes-of-requires : tie.Need-bytes-of-requires
-bytes-of-requires c κs = tt
+marked-requires : tie.Need-marked-requires
+marked-requires c κs = tt
 
 returns : tie.Need-returns
-returns c = rw (c .bytes-of .ensures)
+returns c = rw (c .marked .ensures)
 
 pub for-c-spec : {M : Type 1} → statement M
-for-c-spec = tie.close (tie.spec bytes-of-requires returns)
+for-c-spec = tie.close (tie.spec marked-requires returns)

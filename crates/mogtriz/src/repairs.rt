@@ -1,0 +1,116 @@
+// Step, plan and run from C. A refusal hands the session back as it came, byte for byte; a step or run that is accepted gives
+// the next one.
+use crate::sessions::MarkedSession;
+use crate::sessions::marked;
+use repair::Repairs;
+use repair::Session;
+ghost use mathlib.Core.Path.{_≡_};
+ghost use Rattle.mogtriz.specs.Repairs.{handedBack, repairsC, markedRefusal, steppedC, nodesSteppedC, plannedC, outPlannedC, ranC, nodesRanC};
+
+// C's mogtriz_stepped.
+#[repr(C)]
+pub struct StepAnswer {
+    pub refusal: u8,
+    pub session: MarkedSession,
+}
+
+// C's mogtriz_repairs.
+#[repr(C)]
+pub struct RepairsAnswer {
+    pub refusal: u8,
+    pub steps: usize,
+    pub rounds: usize,
+    pub left: usize,
+    pub session: MarkedSession,
+}
+
+// The session that C gets: the one it handed in where that is refused, else the next.
+fn handed_back(session: MarkedSession, refusal: u8, next: Session) -> MarkedSession
+    ensures { λ r. ⌜ r ≡ handedBack session refusal next ⌝ }
+{
+    if refusal != 0 {
+        return session;
+    }
+    marked(next)
+}
+
+// The numbers of a plan or run with the session that C gets.
+fn repairs_for_c(answer: Repairs, session: MarkedSession) -> RepairsAnswer
+    ensures { λ r. ⌜ r ≡ repairsC answer session ⌝ }
+{
+    RepairsAnswer {
+        refusal: answer.refusal,
+        steps: answer.steps,
+        rounds: answer.rounds,
+        left: answer.left,
+        session: session,
+    }
+}
+
+// A plan or run of a session with a byte above 1.
+fn refused_for_marks(session: MarkedSession) -> RepairsAnswer
+    ensures { λ r. ⌜ r ≡ markedRefusal session ⌝ }
+{
+    RepairsAnswer {
+        refusal: 13,
+        steps: 0,
+        rounds: 0,
+        left: 0,
+        session: session,
+    }
+}
+
+// One missing node repaired from two live ones.
+#[no_mangle]
+pub extern "C" fn mogtriz_step(
+    session: MarkedSession,
+    nodes: &mut [u8],
+    node: usize,
+    first: usize,
+    second: usize,
+) -> StepAnswer
+    ensures { λ r. ⌜ r ≡ steppedC session (now (nodes .entry)) node first second ⌝ }
+    ensures { λ _. ⌜ now (nodes .exit) ≡ nodesSteppedC session (now (nodes .entry)) node first second ⌝ }
+{
+    if session.has_other_marks() {
+        return StepAnswer {
+            refusal: 13,
+            session: session,
+        };
+    }
+    let stepped = session.session().step(nodes, node, first, second);
+    let next = stepped.session;
+    let given = handed_back(session, stepped.refusal, next);
+    StepAnswer {
+        refusal: stepped.refusal,
+        session: given,
+    }
+}
+
+// The plan's steps, four bytes each.
+#[no_mangle]
+pub extern "C" fn mogtriz_plan(session: MarkedSession, out: &mut [u8]) -> RepairsAnswer
+    ensures { λ r. ⌜ r ≡ plannedC session (now (out .entry)) ⌝ }
+    ensures { λ _. ⌜ now (out .exit) ≡ outPlannedC session (now (out .entry)) ⌝ }
+{
+    if session.has_other_marks() {
+        return refused_for_marks(session);
+    }
+    let planned = session.session().plan(out);
+    repairs_for_c(planned, session)
+}
+
+// The plan carried out on a nodes buffer.
+#[no_mangle]
+pub extern "C" fn mogtriz_run(session: MarkedSession, nodes: &mut [u8]) -> RepairsAnswer
+    ensures { λ r. ⌜ r ≡ ranC session (now (nodes .entry)) ⌝ }
+    ensures { λ _. ⌜ now (nodes .exit) ≡ nodesRanC session (now (nodes .entry)) ⌝ }
+{
+    if session.has_other_marks() {
+        return refused_for_marks(session);
+    }
+    let ran = session.session().run(nodes);
+    let next = ran.session;
+    let given = handed_back(session, ran.refusal, next);
+    repairs_for_c(ran, given)
+}
