@@ -81,6 +81,24 @@ typedef struct {
     mogtriz_session session;
 } mogtriz_read_out_answer;
 
+/* What a step gives: 0 and the next session, or the refusal's number and the session as it was handed in. */
+typedef struct {
+    uint8_t refusal;
+    mogtriz_session session;
+} mogtriz_stepped;
+
+/*
+ * What a plan or a run gives: 0 with its steps, its rounds and the nodes left once all its steps are made, or the refusal's
+ * number and zeros. A plan, and a refusal, give the session as it was handed in; a run gives the next one.
+ */
+typedef struct {
+    uint8_t refusal;
+    size_t steps;
+    size_t rounds;
+    size_t left;
+    mogtriz_session session;
+} mogtriz_repairs;
+
 /* A part of a box: `length` bytes from place `from` on; 0 and 0 with a refusal's number. */
 typedef struct {
     uint8_t refusal;
@@ -121,6 +139,30 @@ mogtriz_written mogtriz_write(mogtriz_session session, const uint8_t *nodes, siz
  */
 mogtriz_read_out_answer mogtriz_read_out(mogtriz_session session, const uint8_t *nodes, size_t nodes_len, uint8_t *object,
                                          size_t object_len);
+
+/*
+ * One repair, from two nodes that the caller names: the node's block becomes the XOR of theirs, and it becomes live.
+ * Otherwise nothing is written, and the number is that of the first of these that is met:
+ *   13  no start gives this session   6  nodes_len is not n * len   4  one of the three numbers is 0 or above n
+ *   10  the three nodes are not related   11  the node to repair is live   12  the first or the second is missing
+ */
+mogtriz_stepped mogtriz_step(mogtriz_session session, uint8_t *nodes, size_t nodes_len, size_t node, size_t first,
+                             size_t second);
+
+/*
+ * The repairs to make, in rounds from 1. In a round every missing node with a related pair, both live when the round began,
+ * is repaired from the pair whose smaller number is least; it serves from the next round on. Each step is four bytes: round,
+ * node, smaller, larger; in a round they rise by node. There are at most n steps, and nothing beyond them is written.
+ *   13  no start gives this session   6  out_len is under four bytes a step; nothing is written then
+ */
+mogtriz_repairs mogtriz_plan(mogtriz_session session, uint8_t *out, size_t out_len);
+
+/*
+ * The plan carried out on the nodes buffer; the next session has the repaired nodes live. Places of nodes left keep their
+ * bytes. A refusal writes nothing:
+ *   13  no start gives this session   6  nodes_len is not n * len
+ */
+mogtriz_repairs mogtriz_run(mogtriz_session session, uint8_t *nodes, size_t nodes_len);
 
 #ifdef __cplusplus
 }

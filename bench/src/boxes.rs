@@ -51,7 +51,7 @@ impl Full {
             rivals::read_bodies(&self.list, self.shape.len, bodies, nodes);
         };
         let ways: [Way; 2] = [&mogtriz, &rust];
-        let mut nodes = Aligned::zeros(self.shape.nodes_len());
+        let mut nodes = Aligned::unfilled(self.shape.nodes_len());
         compare_and_measure(&ways, self.bytes.bytes(), &mut nodes, self.nodes.bytes(), 0)
     }
 
@@ -66,7 +66,7 @@ impl Full {
             rivals::write_bodies(&self.list, self.shape.len, nodes, bodies);
         };
         let ways: [Way; 2] = [&mogtriz, &rust];
-        let mut out = Aligned::zeros(self.bytes.bytes().len());
+        let mut out = Aligned::unfilled(self.bytes.bytes().len());
         // the copies leave out what stands before the bodies
         let from = self.bodies_from();
         compare_and_measure(
@@ -81,7 +81,7 @@ impl Full {
 
 fn table(title: &'static str, random: &mut Random, time: fn(&Full) -> Vec<Vec<f64>>) -> Table {
     let line = |(family, k, len): (Family, usize, usize)| Line {
-        name: family.name(k, len),
+        name: family.name(k, format!("L {len}")),
         goals: vec![Some(GOAL)],
         times: time(&Full::new(family, k, len, random)),
     };

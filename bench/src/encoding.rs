@@ -39,7 +39,7 @@ fn run(case: Case, random: &mut Random) -> Line {
     let number = family as usize;
     let object = Aligned::holding(&random.bytes(k * len));
     let expected = Aligned::holding(&papers::code(number, k).multiply(len, object.bytes()));
-    let mut nodes = Aligned::zeros(expected.bytes().len());
+    let mut nodes = Aligned::unfilled(expected.bytes().len());
     let steps = rivals::steps(family, k);
     let mogtriz = |object: &[u8], nodes: &mut [u8]| {
         assert_eq!(library::encode(number, k, len, object, nodes), 0);
@@ -54,7 +54,7 @@ fn run(case: Case, random: &mut Random) -> Line {
     let memcpy = |_: &[u8], nodes: &mut [u8]| nodes.copy_from_slice(expected.bytes());
     let ways: [Way; 4] = [&mogtriz, &rust, &isal, &memcpy];
     Line {
-        name: family.name(k, len),
+        name: family.name(k, format!("L {len}")),
         goals: case.goals.to_vec(),
         times: compare_and_measure(&ways, object.bytes(), &mut nodes, expected.bytes(), 0),
     }

@@ -1,7 +1,8 @@
-//! Encoding and boxes, timed against other ways to fill the same buffers.
+//! Encoding, boxes, plans and runs, timed against other ways to fill the same buffers.
 mod boxes;
 mod encoding;
 mod isal;
+mod repairs;
 mod rivals;
 mod table;
 mod timing;
@@ -12,7 +13,9 @@ use timing::ROUNDS;
 fn main() {
     let mut random = Random::seeded();
     let [read, write] = boxes::tables(&mut random);
-    let tables = [encoding::table(&mut random), read, write];
+    let encode = encoding::table(&mut random);
+    let [plan, run] = [repairs::plans(), repairs::runs(&mut random)];
+    let tables = [encode, read, write, plan, run];
     println!("all ways gave the same bytes; times in microseconds, {ROUNDS} repetitions by turns");
     println!("\nmedians");
     tables.iter().for_each(|table| table.print(ROUNDS / 2));

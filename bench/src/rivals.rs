@@ -1,5 +1,7 @@
-//! The library's work in safe Rust: encoding, with a block XOR of the caller's choice, and the bodies of a
-//! box. Which blocks go where is worked out beforehand, so that a rival's time is that of the blocks alone.
+//! The library's work in safe Rust: encoding and repairs, with a block XOR of the caller's choice, the bodies
+//! of a box, and planning. Which blocks go where is worked out beforehand, so that a rival's time is that of the
+//! blocks alone; a planner works out all of it in the call.
+use std::fmt::Display;
 
 /// The families that are timed, with their numbers.
 #[derive(Clone, Copy)]
@@ -9,13 +11,13 @@ pub enum Family {
 }
 
 impl Family {
-    /// How a table names a code with this L.
-    pub fn name(self, k: usize, len: usize) -> String {
+    /// How a table names a code, with its L or another word.
+    pub fn name(self, k: usize, word: impl Display) -> String {
         let family = match self {
             Family::Simplex => "simplex",
             Family::WeightTwo => "weight-two",
         };
-        format!("{family:<10} k {k:<2} L {len}")
+        format!("{family:<10} k {k:<2} {word}")
     }
 }
 
@@ -30,17 +32,18 @@ fn columns(family: Family, k: usize) -> Vec<usize> {
     }
 }
 
-/// The node with this column, which has one.
+/// The node with this column, which is not 0; 0 where there is none.
 fn node_of(family: Family, k: usize, column: usize) -> usize {
     let i = column.trailing_zeros() as usize + 1;
     let rest = column & (column - 1);
     match family {
         Family::Simplex => column,
         Family::WeightTwo if rest == 0 => i,
-        Family::WeightTwo => {
+        Family::WeightTwo if rest & (rest - 1) == 0 => {
             let j = rest.trailing_zeros() as usize + 1;
             k + (i - 1) * (2 * k - i) / 2 + (j - i)
         }
+        Family::WeightTwo => 0,
     }
 }
 
@@ -84,6 +87,84 @@ pub fn encode(
             Step::Copy(number) => dst.copy_from_slice(block(object, len, number)),
             Step::Xor(low, high) => xor(dst, block(before, len, low), block(before, len, high)),
         }
+    }
+}
+
+/// A code to plan for. Its columns begin at 1, as nodes do, in an array of a length that spares the search a check
+/// of each place.
+struct Planner {
+    family: Family,
+    k: usize,
+    n: usize,
+    columns: [usize; 256],
+}
+
+impl Planner {
+    fn new(family: Family, k: usize) -> Planner {
+        let columns = columns(family, k);
+        let n = columns.len();
+        let mut from_1 = [0; 256];
+        from_1[1..=n].copy_from_slice(&columns);
+        Planner {
+            family,
+            k,
+            n,
+            columns: from_1,
+        }
+    }
+
+    /// Goes through the first members upward; a member's partner is the node of the column that it lacks.
+    fn pair_for(&self, node: usize, live: &[bool; 256]) -> Option<[usize; 2]> {
+        // `1..=n` would take longer
+        let end = self.n.min(255) + 1;
+        for a in 1..end {
+            if live[a] {
+                let b = node_of(self.family, self.k, self.columns[node] ^ self.columns[a]);
+                if live[b] {
+                    return Some([a, b]);
+                }
+            }
+        }
+        None
+    }
+}
+
+/// Writes the plan's steps, and gives how many there are, the rounds and the nodes left.
+pub fn plan(family: Family, k: usize, live: &[u8; 256], out: &mut [u8]) -> [usize; 3] {
+    let planner = Planner::new(family, k);
+    let mut live = live.map(|mark| mark == 1);
+    let mut steps = Vec::with_capacity(4 * planner.n);
+    let mut rounds = 0;
+    loop {
+        let began = live;
+        let before = steps.len();
+        for node in (1..=planner.n).filter(|&node| !began[node]) {
+            if let Some([smaller, larger]) = planner.pair_for(node, &began) {
+                steps.extend([rounds + 1, node, smaller, larger].map(|number| number as u8));
+                live[node] = true;
+            }
+        }
+        if steps.len() == before {
+            break;
+        }
+        rounds += 1;
+    }
+    out[..steps.len()].copy_from_slice(&steps);
+    let left = live[1..=planner.n].iter().filter(|&&live| !live).count();
+    [steps.len() / 4, rounds, left]
+}
+
+/// Makes a plan's steps, four bytes each (round, node, smaller, larger), in the nodes buffer, with XORs by `xor`.
+pub fn repair(steps: &[u8], len: usize, nodes: &mut [u8], xor: impl Fn(&mut [u8], &[u8], &[u8])) {
+    for step in steps.chunks_exact(4) {
+        let [node, smaller, larger] = [1, 2, 3].map(|place| usize::from(step[place]));
+        let (before, from_here) = nodes.split_at_mut((node - 1) * len);
+        let (dst, after) = from_here.split_at_mut(len);
+        let source = |number: usize| match number < node {
+            true => block(before, len, number),
+            false => block(after, len, number - node),
+        };
+        xor(dst, source(smaller), source(larger));
     }
 }
 

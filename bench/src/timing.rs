@@ -16,14 +16,15 @@ pub struct Aligned {
 }
 
 impl Aligned {
-    pub fn zeros(len: usize) -> Aligned {
-        let bytes = vec![0; len + 63];
+    /// A buffer to be filled: every byte is one that a way has to write over.
+    pub fn unfilled(len: usize) -> Aligned {
+        let bytes = vec![0xa5; len + 63];
         let start = bytes.as_ptr().align_offset(64);
         Aligned { bytes, start, len }
     }
 
     pub fn holding(content: &[u8]) -> Aligned {
-        let mut buffer = Aligned::zeros(content.len());
+        let mut buffer = Aligned::unfilled(content.len());
         buffer.bytes_mut().copy_from_slice(content);
         buffer
     }
@@ -41,7 +42,7 @@ impl Aligned {
 const RUNS: u32 = 4;
 
 /// The microseconds of a run, by way and in rising order, once each way gave the expected bytes from a place
-/// on.
+/// on, with the buffer as it is now before each.
 pub fn compare_and_measure(
     ways: &[Way],
     source: &[u8],
@@ -50,8 +51,9 @@ pub fn compare_and_measure(
     from: usize,
 ) -> Vec<Vec<f64>> {
     let filled = filled.bytes_mut();
+    let before = filled.to_vec();
     for (i, way) in ways.iter().enumerate() {
-        filled.fill(0xa5);
+        filled.copy_from_slice(&before);
         way(source, filled);
         let same = filled[from..] == expected[from..];
         assert!(same, "way {} gives other bytes", i + 1);

@@ -1,6 +1,6 @@
 //! Sessions and boxes from the papers alone: for each operation its answer, and what it writes.
 use crate::library::{MARKS, Part, ReadOut, Session, Started, Written};
-use crate::papers::{checked_node_count, code};
+use crate::papers::{checked_node_count, code, node_count};
 
 /// How many bytes stand before a box's node numbers.
 pub const HEAD: usize = 8;
@@ -29,8 +29,18 @@ pub fn session(family: usize, k: usize, len: usize, list: &[u8]) -> Session {
 
 /// The numbers of the live nodes, rising.
 pub fn live_nodes(session: &Session) -> Vec<u8> {
-    let live = |node: &u8| session.live[usize::from(*node)] == 1;
-    (0..=255).filter(live).collect()
+    (0..=255).filter(|&node| is_live(session, node)).collect()
+}
+
+/// The numbers from 1 to n that are not live, in a session that a start gives.
+pub fn missing_nodes(session: &Session) -> Vec<u8> {
+    let n = node_count(session.family, session.k);
+    let nodes = (1..=255).take(n);
+    nodes.filter(|&node| !is_live(session, node)).collect()
+}
+
+fn is_live(session: &Session, node: u8) -> bool {
+    session.live[usize::from(node)] == 1
 }
 
 /// The length of a box that holds so many nodes.
@@ -156,7 +166,7 @@ fn contents(bytes: &[u8]) -> Result<Contents<'_>, u8> {
 }
 
 /// The places of a node's block in a nodes buffer.
-fn block_at(node: u8, len: usize) -> std::ops::Range<usize> {
+pub fn block_at(node: u8, len: usize) -> std::ops::Range<usize> {
     let end = usize::from(node) * len;
     end - len..end
 }
@@ -185,7 +195,7 @@ impl Contents<'_> {
 }
 
 /// n, or 13 where no start gives the session.
-fn check_session(session: &Session) -> Result<usize, u8> {
+pub fn check_session(session: &Session) -> Result<usize, u8> {
     let n = checked_node_count(session.family, session.k, session.len).map_err(|_| 13)?;
     let no_mark = session.live.iter().any(|&mark| mark > 1);
     if no_mark || session.live[0] != 0 || session.live[n + 1..].contains(&1) {
@@ -194,12 +204,18 @@ fn check_session(session: &Session) -> Result<usize, u8> {
     Ok(n)
 }
 
-/// The box that a call writes: 13, 6 for the nodes, 4, 5, 12, 6 for the destination.
-fn box_for(session: &Session, nodes: &[u8], list: &[u8], room: usize) -> Result<Vec<u8>, u8> {
+/// n, or the first of 13 and 6 for the nodes that is met.
+pub fn check_nodes(session: &Session, nodes: &[u8]) -> Result<usize, u8> {
     let n = check_session(session)?;
     if nodes.len() != n * session.len {
         return Err(6);
     }
+    Ok(n)
+}
+
+/// The box that a call writes: 13, 6 for the nodes, 4, 5, 12, 6 for the destination.
+fn box_for(session: &Session, nodes: &[u8], list: &[u8], room: usize) -> Result<Vec<u8>, u8> {
+    let n = check_nodes(session, nodes)?;
     check_list(list, n)?;
     let live = live_nodes(session);
     if list.iter().any(|node| !live.contains(node)) {
@@ -229,8 +245,8 @@ pub fn head(family: usize, k: usize, len: usize, held: usize) -> Vec<u8> {
 
 /// The object that a call reads out: 13, 6, 14, the last with its block.
 fn object_for(session: &Session, nodes: &[u8], room: usize) -> Result<Vec<u8>, (u8, usize)> {
-    let n = check_session(session).map_err(|refusal| (refusal, 0))?;
-    if nodes.len() != n * session.len || room != session.k * session.len {
+    check_nodes(session, nodes).map_err(|refusal| (refusal, 0))?;
+    if room != session.k * session.len {
         return Err((6, 0));
     }
     let code = code(session.family, session.k);

@@ -1,8 +1,9 @@
 //! One call made of the library and of the papers' model: what it gives and every byte lent have to agree.
-//! Each function gives the call's number.
+//! Each function gives the call's number; those that go on from a session give the answer.
 use crate::boxes;
 use crate::guarded::Guarded;
-use crate::library::{self, Session};
+use crate::library::{self, Repairs, Session, Stepped};
+use crate::planner;
 
 /// The bytes of a message, cut where they would fill the screen.
 fn shown(bytes: &[u8]) -> String {
@@ -97,4 +98,41 @@ pub fn read_out(session: Session, nodes: &[u8], object_len: usize) -> u8 {
     assert!(as_wanted, "{}: the object differs", place());
     assert!(lent.untouched(), "{}: the nodes were written to", place());
     wanted.refusal
+}
+
+/// The nodes are left as the call leaves them.
+pub fn step(session: Session, nodes: &mut [u8], triple: [usize; 3]) -> Stepped {
+    let mut lent = Guarded::holding(nodes);
+    let got = library::step(session, lent.bytes_mut(), triple);
+    let wanted = planner::step(session, nodes, triple);
+    let place = || format!("step {triple:?} {session:?} nodes {}", nodes.len());
+    assert_eq!(got, wanted, "{}", place());
+    let as_wanted = written_as(&lent, nodes);
+    assert!(as_wanted, "{}: the nodes differ", place());
+    wanted
+}
+
+/// The nodes are left as the call leaves them.
+pub fn run(session: Session, nodes: &mut [u8]) -> Repairs {
+    let mut lent = Guarded::holding(nodes);
+    let got = library::run(session, lent.bytes_mut());
+    let wanted = planner::run(session, nodes);
+    let place = || format!("run {session:?} nodes {}", nodes.len());
+    assert_eq!(got, wanted, "{}", place());
+    let as_wanted = written_as(&lent, nodes);
+    assert!(as_wanted, "{}: the nodes differ", place());
+    wanted
+}
+
+pub fn plan(session: Session, out_len: usize) -> Repairs {
+    let mut out = Guarded::filled(out_len);
+    let mut expected = out.bytes().to_vec();
+    let got = library::plan(session, out.bytes_mut());
+    let wanted = planner::plan(session, &mut expected);
+    let place = || format!("plan {session:?} into {out_len}");
+    assert_eq!(got, wanted, "{}", place());
+    let as_wanted = written_as(&out, &expected);
+    let bytes = || [out.bytes(), &expected].map(shown).join(", not ");
+    assert!(as_wanted, "{}: {}", place(), bytes());
+    wanted
 }

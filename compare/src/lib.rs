@@ -1,5 +1,5 @@
-//! The codes and boxes as the papers give them, worked out without the library, and the library to hold
-//! against them.
+//! The codes, boxes and repairs as the papers give them, worked out without the library, and the library to
+//! hold against them.
 #![deny(unsafe_code)]
 
 pub mod boxes;
@@ -7,7 +7,11 @@ pub mod calls;
 pub mod guarded;
 #[allow(unsafe_code)]
 pub mod library;
+pub mod live_sets;
+pub mod open;
 pub mod papers;
+pub mod planner;
 pub mod random;
 pub mod samples;
 pub mod tally;
+pub mod triples;

@@ -40,6 +40,25 @@ pub struct ReadOut {
     pub session: Session,
 }
 
+/// What a step gives, with the next session.
+#[repr(C)]
+#[derive(Clone, Copy, Debug, PartialEq, Eq)]
+pub struct Stepped {
+    pub refusal: u8,
+    pub session: Session,
+}
+
+/// What a plan or a run gives: its counts, and the session, which for a run is the next one.
+#[repr(C)]
+#[derive(Clone, Copy, Debug, PartialEq, Eq)]
+pub struct Repairs {
+    pub refusal: u8,
+    pub steps: usize,
+    pub rounds: usize,
+    pub left: usize,
+    pub session: Session,
+}
+
 /// A part of a box: `length` bytes from place `from` on.
 #[repr(C)]
 #[derive(Clone, Copy, Debug, PartialEq, Eq)]
@@ -103,6 +122,16 @@ unsafe extern "C" {
         object: *mut u8,
         object_len: usize,
     ) -> ReadOut;
+    fn mogtriz_step(
+        session: Session,
+        nodes: *mut u8,
+        nodes_len: usize,
+        node: usize,
+        first: usize,
+        second: usize,
+    ) -> Stepped;
+    fn mogtriz_plan(session: Session, out: *mut u8, out_len: usize) -> Repairs;
+    fn mogtriz_run(session: Session, nodes: *mut u8, nodes_len: usize) -> Repairs;
 }
 
 // SAFETY, for every call below: each pointer comes with its slice's length, and a slice borrowed as mutable
@@ -186,4 +215,30 @@ pub fn read_out(session: Session, nodes: &[u8], object: &mut [u8]) -> ReadOut {
             object.len(),
         )
     }
+}
+
+/// The triple is the node to repair and the two that it comes from.
+pub fn step(session: Session, nodes: &mut [u8], triple: [usize; 3]) -> Stepped {
+    let [node, first, second] = triple;
+    // SAFETY: as above.
+    unsafe {
+        mogtriz_step(
+            session,
+            nodes.as_mut_ptr(),
+            nodes.len(),
+            node,
+            first,
+            second,
+        )
+    }
+}
+
+pub fn plan(session: Session, out: &mut [u8]) -> Repairs {
+    // SAFETY: as above.
+    unsafe { mogtriz_plan(session, out.as_mut_ptr(), out.len()) }
+}
+
+pub fn run(session: Session, nodes: &mut [u8]) -> Repairs {
+    // SAFETY: as above.
+    unsafe { mogtriz_run(session, nodes.as_mut_ptr(), nodes.len()) }
 }

@@ -1,6 +1,7 @@
 //! The three families from the papers alone: ranges, generator matrices, the multiplication, and
 //! encode's refusals.
 use std::ops::RangeInclusive;
+use std::sync::LazyLock;
 
 pub const FAMILIES: [usize; 3] = [1, 2, 3];
 
@@ -59,6 +60,18 @@ pub fn every_code() -> Vec<Code> {
         codes.extend(range.map(|k| code(family, k)));
     }
     codes
+}
+
+/// The columns of nodes 1 to n of the code of a family at a k in its range, worked out once for all calls.
+pub fn columns_of(family: usize, k: usize) -> &'static [usize] {
+    static COLUMNS: LazyLock<Vec<Vec<Vec<usize>>>> = LazyLock::new(|| {
+        let mut columns = vec![vec![Vec::new(); 23]; 4];
+        for code in every_code() {
+            columns[code.family][code.k] = code.columns();
+        }
+        columns
+    });
+    &COLUMNS[family][k]
 }
 
 /// Source document 000, definition 2.1: the columns are all nonzero vectors, here in the order of the
@@ -131,7 +144,7 @@ pub fn column_number<Row: AsRef<[u8]>>(rows: &[Row], p: usize) -> usize {
     bits.enumerate().map(|(i, bit)| bit << i).sum()
 }
 
-fn xor_into(block: &mut [u8], data: &[u8]) {
+pub fn xor_into(block: &mut [u8], data: &[u8]) {
     for (byte, other) in block.iter_mut().zip(data) {
         *byte ^= other;
     }

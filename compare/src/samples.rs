@@ -94,6 +94,12 @@ pub fn short_lists() -> Vec<Vec<u8>> {
     lists
 }
 
+/// The nodes whose bits are set, bit 0 being node 1's: every number below 2^n is a set of n nodes.
+pub fn nodes_in(bits: usize) -> Vec<u8> {
+    let set = |node: &u8| bits >> (node - 1) & 1 == 1;
+    (1..=64).filter(set).collect()
+}
+
 /// Some of these numbers, from none to all, in their order.
 pub fn some_of(numbers: &[u8], random: &mut Random) -> Vec<u8> {
     let share = random.below(11);
@@ -194,5 +200,52 @@ fn spoil_session(session: &mut Session, n: usize, random: &mut Random) {
         6 => session.live[place] = no_mark,
         7 => session.live[random.below(n + 1)] = no_mark,
         _ => session.live.copy_from_slice(&random.bytes(MARKS)),
+    }
+}
+
+/// A session that a start gives.
+pub fn sound_session(shape: Shape, random: &mut Random) -> Session {
+    shape.session(&some_of(&shape.all_nodes(), random))
+}
+
+/// A session of any content: one that a start gives with something changed, or nothing but random numbers.
+pub fn any_session(shape: Shape, random: &mut Random) -> Session {
+    if random.below(10) > 0 {
+        return spoiled_session(sound_session(shape, random), shape.n(), random);
+    }
+    let mut live = [0; MARKS];
+    live.copy_from_slice(&random.bytes(MARKS));
+    let [family, k, len] = [(); 3].map(|()| random.wide());
+    Session {
+        family,
+        k,
+        len,
+        live,
+    }
+}
+
+/// The session with each mark in turn made live, missing or no mark.
+pub fn with_each_mark(session: Session) -> impl Iterator<Item = Session> {
+    let marks = [0, 1, 2, 3, 128, 254, 255];
+    let changes = (0..MARKS).flat_map(move |place| marks.map(|mark| (place, mark)));
+    changes.map(move |(place, mark)| {
+        let mut changed = session;
+        changed.live[place] = mark;
+        changed
+    })
+}
+
+/// Bytes for a nodes buffer, those of a longer one for all calls.
+pub struct Nodes(Vec<u8>);
+
+impl Nodes {
+    pub fn new(random: &mut Random) -> Nodes {
+        Nodes(random.bytes(200_000))
+    }
+
+    /// So many of the bytes, from anywhere, as nothing has to be aligned.
+    pub fn some(&self, length: usize, random: &mut Random) -> &[u8] {
+        let from = random.below(self.0.len() - length);
+        &self.0[from..from + length]
     }
 }

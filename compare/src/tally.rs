@@ -1,4 +1,5 @@
 //! How many calls of one operation got each number, by kind of input.
+use crate::samples::{Shape, shapes};
 
 /// The numbers that there are: 0 and the refusals.
 const NUMBERS: usize = 15;
@@ -62,5 +63,20 @@ impl Tally {
         }
         let calls: usize = totals.iter().sum();
         table + &row("all", &|number| totals[number]) + &format!("{calls} calls\n")
+    }
+}
+
+/// Makes a kind's calls a number of times for each shape.
+pub fn repeat(
+    tally: &mut Tally,
+    kind: &'static str,
+    times: usize,
+    mut call: impl FnMut(Shape) -> u8,
+) {
+    tally.begin(kind);
+    for shape in shapes() {
+        for _ in 0..times {
+            tally.add(call(shape));
+        }
     }
 }

@@ -2,24 +2,14 @@
 //! every content and length.
 use compare::boxes::{self, box_len, live_nodes};
 use compare::calls;
-use compare::library::{MARKS, Session};
+use compare::library::Session;
 use compare::papers::code;
 use compare::random::Random;
 use compare::samples::{
-    Shape, THREE_NODES, length_near, long_list, shapes, short_lists, some_of, spoiled,
-    spoiled_session, wrong_len, wrong_length, wrong_number,
+    Nodes, Shape, THREE_NODES, any_session, length_near, long_list, shapes, short_lists, some_of,
+    sound_session, spoiled, spoiled_session, with_each_mark, wrong_len, wrong_length, wrong_number,
 };
-use compare::tally::Tally;
-
-/// Makes a kind's calls a number of times for each shape.
-fn repeat(tally: &mut Tally, kind: &'static str, times: usize, mut call: impl FnMut(Shape) -> u8) {
-    tally.begin(kind);
-    for shape in shapes() {
-        for _ in 0..times {
-            tally.add(call(shape));
-        }
-    }
-}
+use compare::tally::{Tally, repeat};
 
 /// Some of the nodes, with a fault or two in most lists.
 fn any_list(shape: Shape, random: &mut Random) -> Vec<u8> {
@@ -69,26 +59,6 @@ fn with_wrong_numbers(shape: Shape, random: &mut Random) -> Shape {
         }
     }
     wrong
-}
-
-/// Bytes for a nodes buffer, those of a longer one for all calls.
-struct Nodes(Vec<u8>);
-
-impl Nodes {
-    fn new(random: &mut Random) -> Nodes {
-        Nodes(random.bytes(200_000))
-    }
-
-    /// So many of the bytes, from anywhere, as nothing has to be aligned.
-    fn some(&self, length: usize, random: &mut Random) -> &[u8] {
-        let from = random.below(self.0.len() - length);
-        &self.0[from..from + length]
-    }
-}
-
-/// A session that a start gives.
-fn sound_session(shape: Shape, random: &mut Random) -> Session {
-    shape.session(&some_of(&shape.all_nodes(), random))
 }
 
 /// A list for writing: none, all or some of the live nodes, perhaps with a missing one, perhaps faulty.
@@ -182,31 +152,9 @@ fn sessions_with_each_mark(random: &mut Random) -> Vec<(Shape, Session)> {
     let mut sessions = Vec::new();
     for shape in shapes().into_iter().filter(|shape| shape.len <= 2) {
         let sound = session_to_read_out(shape, random);
-        for place in 0..MARKS {
-            for mark in [0, 1, 2, 3, 128, 254, 255] {
-                let mut session = sound;
-                session.live[place] = mark;
-                sessions.push((shape, session));
-            }
-        }
+        sessions.extend(with_each_mark(sound).map(|session| (shape, session)));
     }
     sessions
-}
-
-/// A session of any content: one that a start gives with something changed, or nothing but random numbers.
-fn any_session(shape: Shape, random: &mut Random) -> Session {
-    if random.below(10) > 0 {
-        return spoiled_session(sound_session(shape, random), shape.n(), random);
-    }
-    let mut live = [0; MARKS];
-    live.copy_from_slice(&random.bytes(MARKS));
-    let [family, k, len] = [(); 3].map(|()| random.wide());
-    Session {
-        family,
-        k,
-        len,
-        live,
-    }
 }
 
 /// A start's session, in which all or all but a few of the data blocks' nodes are live.

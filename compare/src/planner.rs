@@ -1,0 +1,191 @@
+//! Steps, plans and runs from the papers alone: for each its answer, and what it writes.
+use crate::boxes::{block_at, check_nodes, check_session, live_nodes, missing_nodes};
+use crate::library::{Repairs, Session, Stepped};
+use crate::papers::{columns_of, xor_into};
+
+/// A step as a plan writes it: round, node, smaller, larger.
+pub type Step = [u8; 4];
+
+/// All steps of a plan, and the session once they are made.
+pub struct Plan {
+    pub steps: Vec<Step>,
+    pub rounds: usize,
+    pub session: Session,
+}
+
+/// The triple is the node to repair and the two that it comes from.
+pub fn step(session: Session, nodes: &mut [u8], triple: [usize; 3]) -> Stepped {
+    match check_step(&session, nodes, triple) {
+        Ok(triple) => {
+            repair(nodes, session.len, triple);
+            Stepped {
+                refusal: 0,
+                session: with_live(session, triple[0]),
+            }
+        }
+        Err(refusal) => Stepped { refusal, session },
+    }
+}
+
+pub fn plan(session: Session, out: &mut [u8]) -> Repairs {
+    match check_session(&session).and_then(|_| plan_within(&session, out.len())) {
+        Ok(plan) => {
+            let bytes = plan.steps.concat();
+            out[..bytes.len()].copy_from_slice(&bytes);
+            counts(&plan, session)
+        }
+        Err(refusal) => refused(refusal, session),
+    }
+}
+
+pub fn run(session: Session, nodes: &mut [u8]) -> Repairs {
+    match check_nodes(&session, nodes) {
+        Ok(_) => {
+            let plan = plan_of(&session);
+            for &[_, node, smaller, larger] in &plan.steps {
+                repair(nodes, session.len, [node, smaller, larger]);
+            }
+            counts(&plan, plan.session)
+        }
+        Err(refusal) => refused(refusal, session),
+    }
+}
+
+/// The plan of a session that a start gives.
+pub fn plan_of(session: &Session) -> Plan {
+    let mut plan = Plan {
+        steps: Vec::new(),
+        rounds: 0,
+        session: *session,
+    };
+    loop {
+        let steps = round(&plan.session, plan.rounds + 1);
+        if steps.is_empty() {
+            return plan;
+        }
+        plan.rounds += 1;
+        for &[_, node, ..] in &steps {
+            plan.session = with_live(plan.session, node);
+        }
+        plan.steps.extend(steps);
+    }
+}
+
+/// The pairs of live nodes that are related to a node, those with the least smaller number first.
+pub fn pairs(session: &Session, node: u8) -> Vec<[u8; 2]> {
+    Live::of(session).pairs(column(session, node)).collect()
+}
+
+/// The live nodes, rising, and their columns.
+struct Live {
+    nodes: Vec<u8>,
+    columns: Vec<u32>,
+}
+
+impl Live {
+    fn of(session: &Session) -> Live {
+        let nodes = live_nodes(session);
+        let columns = nodes.iter().map(|&node| column(session, node)).collect();
+        Live { nodes, columns }
+    }
+
+    /// The pairs a < b whose columns with this one give 0, by a: every b above a is tried.
+    fn pairs(&self, column: u32) -> impl Iterator<Item = [u8; 2]> {
+        (0..self.nodes.len()).filter_map(move |a| {
+            let wanted = column ^ self.columns[a];
+            let above = &self.columns[a + 1..];
+            // `contains` looks at several at a time
+            if !above.contains(&wanted) {
+                return None;
+            }
+            let b = a + 1 + above.iter().position(|&other| other == wanted)?;
+            Some([self.nodes[a], self.nodes[b]])
+        })
+    }
+}
+
+/// The column of a node from 1 to n.
+fn column(session: &Session, node: u8) -> u32 {
+    // of at most 22 bits
+    columns_of(session.family, session.k)[usize::from(node) - 1] as u32
+}
+
+/// Whether the XOR of the columns of three nodes is 0.
+fn related(session: &Session, triple: [u8; 3]) -> bool {
+    let [a, b, c] = triple.map(|node| column(session, node));
+    a ^ b ^ c == 0
+}
+
+/// The steps of one round. Its repairs are from the nodes that are live now, when it begins.
+fn round(session: &Session, number: usize) -> Vec<Step> {
+    let live = Live::of(session);
+    let step = |node: u8| {
+        let [smaller, larger] = live.pairs(column(session, node)).next()?;
+        Some([number as u8, node, smaller, larger])
+    };
+    let missing = missing_nodes(session).into_iter();
+    missing.filter_map(step).collect()
+}
+
+/// The first node's block becomes the XOR of the two others'.
+fn repair(nodes: &mut [u8], len: usize, triple: [u8; 3]) {
+    let [node, first, second] = triple.map(|node| block_at(node, len));
+    let mut block = nodes[first].to_vec();
+    xor_into(&mut block, &nodes[second]);
+    nodes[node].copy_from_slice(&block);
+}
+
+fn with_live(mut session: Session, node: u8) -> Session {
+    session.live[usize::from(node)] = 1;
+    session
+}
+
+/// The three nodes, once the checks 13, 6, 4, 10, 11 and 12 are passed.
+fn check_step(session: &Session, nodes: &[u8], triple: [usize; 3]) -> Result<[u8; 3], u8> {
+    let n = check_nodes(session, nodes)?;
+    if triple.iter().any(|&node| node == 0 || node > n) {
+        return Err(4);
+    }
+    // n is below 256
+    let triple = triple.map(|node| node as u8);
+    if !related(session, triple) {
+        return Err(10);
+    }
+    let [node, first, second] = triple.map(|node| session.live[usize::from(node)] == 1);
+    if node {
+        return Err(11);
+    }
+    if !first || !second {
+        return Err(12);
+    }
+    Ok(triple)
+}
+
+/// The plan, or 6 where its steps take more bytes than there are.
+fn plan_within(session: &Session, room: usize) -> Result<Plan, u8> {
+    let plan = plan_of(session);
+    if room < 4 * plan.steps.len() {
+        return Err(6);
+    }
+    Ok(plan)
+}
+
+fn counts(plan: &Plan, session: Session) -> Repairs {
+    Repairs {
+        refusal: 0,
+        steps: plan.steps.len(),
+        rounds: plan.rounds,
+        left: missing_nodes(&plan.session).len(),
+        session,
+    }
+}
+
+fn refused(refusal: u8, session: Session) -> Repairs {
+    Repairs {
+        refusal,
+        steps: 0,
+        rounds: 0,
+        left: 0,
+        session,
+    }
+}
