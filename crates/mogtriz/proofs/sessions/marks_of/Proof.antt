@@ -1,6 +1,5 @@
 -- `mogtriz::sessions::marks_of` meets its contract: before each turn the marks of the bytes before j are in place.
 -- Assumes nothing.
--- Assumes nothing.
 use mathlib.Core.Path.{_≡_, refl, _∙_, ap}
 use mathlib.Core.Bool.{Bool, false, cond}
 use Prim.Native.Nat.{ℕ, _-_, _≤_}

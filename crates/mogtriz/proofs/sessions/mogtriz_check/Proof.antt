@@ -1,6 +1,5 @@
 -- `mogtriz::sessions::mogtriz_check` meets its contract: it gives what the session's own check gives, for C.
 -- Assumes nothing.
--- Assumes nothing.
 use Rattle.mogtriz.proofs.sessions.mogtriz_check.Statement.{statement}
 use Rattle.mogtriz.proofs.sessions.mogtriz_check.Tie as tie
 

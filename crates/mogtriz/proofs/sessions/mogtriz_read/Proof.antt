@@ -1,6 +1,5 @@
 -- `mogtriz::sessions::mogtriz_read` meets its contract: it gives what the session's own read gives, for C.
 -- Assumes nothing.
--- Assumes nothing.
 use borrow.Author.Needs.{needs}
 use Rattle.mogtriz.proofs.sessions.mogtriz_read.Statement.{statement}
 use Rattle.mogtriz.proofs.sessions.mogtriz_read.Tie as tie

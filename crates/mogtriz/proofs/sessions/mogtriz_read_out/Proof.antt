@@ -1,6 +1,5 @@
 -- `mogtriz::sessions::mogtriz_read_out` meets its contract: a byte above 1 is refused before any other check, and else it is the session's own read-out.
 -- Assumes nothing.
--- Assumes nothing.
 use mathlib.Core.Path.{sym, _∙_}
 use Rattle.mogtriz.specs.Sessions.{readOutC, objectOutC}
 use borrow.Author.Needs.{needs}

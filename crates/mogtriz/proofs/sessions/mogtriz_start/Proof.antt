@@ -1,6 +1,5 @@
 -- `mogtriz::sessions::mogtriz_start` meets its contract: it gives what the session's own start gives, for C.
 -- Assumes nothing.
--- Assumes nothing.
 use Rattle.mogtriz.proofs.sessions.mogtriz_start.Statement.{statement}
 use Rattle.mogtriz.proofs.sessions.mogtriz_start.Tie as tie
 

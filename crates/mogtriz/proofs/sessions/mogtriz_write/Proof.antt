@@ -1,6 +1,5 @@
 -- `mogtriz::sessions::mogtriz_write` meets its contract: a byte above 1 is refused before any other check, and else it is the session's own write.
 -- Assumes nothing.
--- Assumes nothing.
 use mathlib.Core.Path.{sym, _∙_}
 use Rattle.mogtriz.specs.Sessions.{writtenC, outWrittenC}
 use borrow.Author.Needs.{needs}
