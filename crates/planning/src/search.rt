@@ -33,13 +33,13 @@ fn larger_node(
     ensures { λ r. ⌜ r ≡ largerNode family k (now (marks .entry)) j a ⌝ }
 {
     let b = families::node_of(family, k, columns[j] ^ columns[a]);
+    if !marks[b] {
+        return 0;
+    }
     if b <= a {
         return 0;
     }
-    if marks[b] {
-        return b;
-    }
-    0
+    b
 }
 
 // The first node above `after` that a round repairs, with its pair. The marks are those when the round began, and `live` lists
