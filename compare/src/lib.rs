@@ -2,16 +2,18 @@
 //! hold against them.
 #![deny(unsafe_code)]
 
+pub mod answers;
 pub mod boxes;
 pub mod calls;
 pub mod guarded;
-#[allow(unsafe_code)]
 pub mod library;
 pub mod live_sets;
 pub mod open;
 pub mod papers;
 pub mod planner;
 pub mod random;
+#[allow(unsafe_code)]
+pub mod raw;
 pub mod samples;
 pub mod tally;
 pub mod triples;
