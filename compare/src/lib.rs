@@ -9,6 +9,8 @@ pub mod guarded;
 pub mod library;
 pub mod live_sets;
 pub mod open;
+#[allow(unsafe_code)]
+mod pages;
 pub mod papers;
 pub mod planner;
 pub mod random;
