@@ -15,7 +15,10 @@ pub fn compare(input: &mut Input) {
     let fitted = input.byte() % 2 == 1;
     let bytes = &box_from(input.0, fitted);
     count(Check, calls::check(bytes));
-    count(Body, calls::body(bytes, node));
+    // the other numbers are the first again once cut to 8, 16 or 32 bits
+    for raise in [0, 1 << 8, 1 << 16, 1 << 32] {
+        count(Body, calls::body(bytes, node.wrapping_add(raise)));
+    }
     let checked = boxes::check(bytes);
     let nodes_len = tags.nodes_len(&checked.session);
     if count(Read, calls::read(bytes, nodes_len)) == 0 {
