@@ -1,4 +1,4 @@
-// The static library is linked by `compare`; ISA-L is Debian's.
+// The static library is linked by `mogtriz`; ISA-L is Debian's.
 fn main() {
     println!("cargo:rustc-link-lib=dylib=isal");
     println!("cargo:rerun-if-changed=build.rs");

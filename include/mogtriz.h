@@ -11,6 +11,9 @@
  * 3       tetrahedron  4        14
  *
  * Every number is taken as it comes: one that is out of range is refused, however large, and never cut.
+ *
+ * In every call each pointer has to be to as many bytes as its length says, and may not be null, not even with a length
+ * of 0; and a buffer that is written may not overlap another of the call.
  */
 #ifndef MOGTRIZ_H
 #define MOGTRIZ_H
@@ -29,7 +32,6 @@ extern "C" {
  *   2  k is outside its family's range
  *   3  len is 0 or above 4096
  *   6  object_len is not k * len, or nodes_len is not n * len
- * Each pointer has to be to as many bytes as its length says, and the two buffers may not overlap.
  */
 uint8_t mogtriz_encode(size_t family, size_t k, size_t len, const uint8_t *object, size_t object_len, uint8_t *nodes,
                        size_t nodes_len);

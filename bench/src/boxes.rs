@@ -3,7 +3,7 @@ use crate::rivals::{self, Family};
 use crate::table::{Line, Table};
 use crate::timing::{Aligned, Way, compare_and_measure};
 use compare::boxes::HEAD;
-use compare::library;
+use compare::library::handed_in;
 use compare::random::Random;
 use compare::samples::Shape;
 
@@ -44,7 +44,7 @@ impl Full {
 
     fn read(&self) -> Vec<Vec<f64>> {
         let mogtriz = |bytes: &[u8], nodes: &mut [u8]| {
-            assert_eq!(library::read(bytes, nodes).refusal, 0);
+            mogtriz::Session::read(bytes, nodes).expect("a sound box");
         };
         let rust = |bytes: &[u8], nodes: &mut [u8]| {
             let bodies = &bytes[self.bodies_from()..];
@@ -56,10 +56,10 @@ impl Full {
     }
 
     fn write(&self) -> Vec<Vec<f64>> {
-        let session = self.shape.session(&self.list);
+        let session = handed_in(self.shape.session(&self.list));
         let mogtriz = |nodes: &[u8], out: &mut [u8]| {
-            let written = library::write(session, nodes, &[], out);
-            assert_eq!((written.refusal, written.length), (0, out.len()));
+            let written = session.clone().write(nodes, &[], out);
+            assert_eq!(written.expect("a sound call").length, out.len());
         };
         let rust = |nodes: &[u8], out: &mut [u8]| {
             let bodies = &mut out[self.bodies_from()..];

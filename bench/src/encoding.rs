@@ -4,8 +4,8 @@ use crate::isal;
 use crate::rivals::{self, Family};
 use crate::table::{Line, Table};
 use crate::timing::{Aligned, Way, compare_and_measure};
+use compare::papers;
 use compare::random::Random;
-use compare::{library, papers};
 
 const WAYS: [&str; 4] = ["Mogtriz", "Rust", "ISA-L", "memcpy"];
 
@@ -42,7 +42,7 @@ fn run(case: Case, random: &mut Random) -> Line {
     let mut nodes = Aligned::unfilled(expected.bytes().len());
     let steps = rivals::steps(family, k);
     let mogtriz = |object: &[u8], nodes: &mut [u8]| {
-        assert_eq!(library::encode(number, k, len, object, nodes), 0);
+        mogtriz::encode(number, k, len, object, nodes).expect("a sound call");
     };
     let rust = |object: &[u8], nodes: &mut [u8]| {
         rivals::encode(&steps, len, object, nodes, rivals::xor);

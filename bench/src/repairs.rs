@@ -4,11 +4,12 @@ use crate::isal;
 use crate::rivals::{self, Family};
 use crate::table::{Line, Table};
 use crate::timing::{Aligned, Way, compare_and_measure};
-use compare::library::{self, Repairs};
+use compare::library::handed_in;
 use compare::papers::code;
 use compare::planner;
 use compare::random::Random;
 use compare::samples::Shape;
+use mogtriz::{Refused, Repairs};
 
 /// A code with its live nodes, and how a table names them.
 struct Case {
@@ -48,8 +49,8 @@ fn data_nodes() -> Vec<u8> {
     (0..8).map(|i| 1 << i).collect()
 }
 
-fn counts(repairs: Repairs) -> [usize; 3] {
-    assert_eq!(repairs.refusal, 0);
+fn counts(answer: Result<Repairs, Refused>) -> [usize; 3] {
+    let repairs = answer.expect("a sound call");
     [repairs.steps, repairs.rounds, repairs.left]
 }
 
@@ -64,8 +65,9 @@ fn plan(case: Case) -> Line {
     let plan = planner::plan_of(&session);
     let left = shape.n() - case.live.len() - plan.steps.len();
     let wanted = [plan.steps.len(), plan.rounds, left];
+    let handed_in = handed_in(session);
     let mogtriz = |_: &[u8], out: &mut [u8]| {
-        assert_eq!(counts(library::plan(session, out)), wanted);
+        assert_eq!(counts(handed_in.clone().plan(out)), wanted);
     };
     let rust = |_: &[u8], out: &mut [u8]| {
         assert_eq!(rivals::plan(family, k, &session.live, out), wanted);
@@ -106,9 +108,11 @@ fn run(len: usize, random: &mut Random) -> Line {
     let steps = planner::plan_of(&session).steps.concat();
     let mut nodes = Aligned::holding(&random.bytes(shape.nodes_len()));
     let mut expected = nodes.bytes().to_vec();
-    let wanted = counts(planner::run(session, &mut expected));
+    let repairs = planner::run(session, &mut expected);
+    let wanted = [repairs.steps, repairs.rounds, repairs.left];
+    let handed_in = handed_in(session);
     let mogtriz = |_: &[u8], nodes: &mut [u8]| {
-        assert_eq!(counts(library::run(session, nodes)), wanted);
+        assert_eq!(counts(handed_in.clone().run(nodes)), wanted);
     };
     let rust = |_: &[u8], nodes: &mut [u8]| rivals::repair(&steps, len, nodes, rivals::xor);
     let isal = |_: &[u8], nodes: &mut [u8]| {

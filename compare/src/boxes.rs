@@ -1,5 +1,5 @@
 //! Sessions and boxes from the papers alone: for each operation its answer, and what it writes.
-use crate::library::{MARKS, Part, ReadOut, Session, Started, Written};
+use crate::answers::{MARKS, Part, ReadOut, Session, Started, Written};
 use crate::papers::{checked_node_count, code, node_count};
 
 /// How many bytes stand before a box's node numbers.

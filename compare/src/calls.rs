@@ -1,9 +1,9 @@
 //! One call made of the library and of the papers' model: what it gives and every byte lent have to agree.
-//! Each function gives the call's number; those that go on from a session give the answer.
-use crate::boxes;
+//! Each function gives the call's number; those that go on from a session give the answer. Where the Rust package leaves
+//! out a part of the answer, the call is made of C besides: it writes the same bytes again.
+use crate::answers::{Repairs, Session, Stepped};
 use crate::guarded::Guarded;
-use crate::library::{self, Repairs, Session, Stepped};
-use crate::planner;
+use crate::{boxes, library, planner, raw};
 
 /// The bytes of a message, cut where they would fill the screen.
 fn shown(bytes: &[u8]) -> String {
@@ -52,10 +52,11 @@ pub fn read(bytes: &[u8], nodes_len: usize) -> u8 {
 
 pub fn body(bytes: &[u8], node: usize) -> u8 {
     let lent = Guarded::holding(bytes);
-    let got = library::body(lent.bytes(), node);
     let wanted = boxes::body(bytes, node);
     let place = || format!("body {node} of {}", shown(bytes));
-    assert_eq!(got, wanted, "{}", place());
+    for body in [library::body, raw::body] {
+        assert_eq!(body(lent.bytes(), node), wanted, "{}", place());
+    }
     assert!(lent.untouched(), "{}: the box was written to", place());
     wanted.refusal
 }
@@ -64,20 +65,22 @@ pub fn write(session: Session, nodes: &[u8], list: &[u8], out_len: usize) -> u8 
     let [lent_nodes, lent_list] = [nodes, list].map(Guarded::holding);
     let mut out = Guarded::filled(out_len);
     let mut expected = out.bytes().to_vec();
-    let got = library::write(
-        session,
-        lent_nodes.bytes(),
-        lent_list.bytes(),
-        out.bytes_mut(),
-    );
     let wanted = boxes::write(session, nodes, list, &mut expected);
     let place = || {
         let (nodes, list) = (nodes.len(), shown(list));
         format!("write {session:?} nodes {nodes} list {list} into {out_len}")
     };
-    assert_eq!(got, wanted, "{}", place());
-    let as_wanted = written_as(&out, &expected);
-    assert!(as_wanted, "{}: the box differs", place());
+    for write in [library::write, raw::write] {
+        let [nodes, list] = [&lent_nodes, &lent_list].map(Guarded::bytes);
+        assert_eq!(
+            write(session, nodes, list, out.bytes_mut()),
+            wanted,
+            "{}",
+            place()
+        );
+        let as_wanted = written_as(&out, &expected);
+        assert!(as_wanted, "{}: the box differs", place());
+    }
     let kept = lent_nodes.untouched() && lent_list.untouched();
     assert!(kept, "{}: the nodes or the list were written to", place());
     wanted.refusal
@@ -87,15 +90,17 @@ pub fn read_out(session: Session, nodes: &[u8], object_len: usize) -> u8 {
     let lent = Guarded::holding(nodes);
     let mut object = Guarded::filled(object_len);
     let mut expected = object.bytes().to_vec();
-    let got = library::read_out(session, lent.bytes(), object.bytes_mut());
     let wanted = boxes::read_out(session, nodes, &mut expected);
     let place = || {
         let nodes = nodes.len();
         format!("read out {session:?} nodes {nodes} into {object_len}")
     };
-    assert_eq!(got, wanted, "{}", place());
-    let as_wanted = written_as(&object, &expected);
-    assert!(as_wanted, "{}: the object differs", place());
+    for read_out in [library::read_out, raw::read_out] {
+        let got = read_out(session, lent.bytes(), object.bytes_mut());
+        assert_eq!(got, wanted, "{}", place());
+        let as_wanted = written_as(&object, &expected);
+        assert!(as_wanted, "{}: the object differs", place());
+    }
     assert!(lent.untouched(), "{}: the nodes were written to", place());
     wanted.refusal
 }
@@ -115,24 +120,26 @@ pub fn step(session: Session, nodes: &mut [u8], triple: [usize; 3]) -> Stepped {
 /// The nodes are left as the call leaves them.
 pub fn run(session: Session, nodes: &mut [u8]) -> Repairs {
     let mut lent = Guarded::holding(nodes);
-    let got = library::run(session, lent.bytes_mut());
     let wanted = planner::run(session, nodes);
     let place = || format!("run {session:?} nodes {}", nodes.len());
-    assert_eq!(got, wanted, "{}", place());
-    let as_wanted = written_as(&lent, nodes);
-    assert!(as_wanted, "{}: the nodes differ", place());
+    for run in [library::run, raw::run] {
+        assert_eq!(run(session, lent.bytes_mut()), wanted, "{}", place());
+        let as_wanted = written_as(&lent, nodes);
+        assert!(as_wanted, "{}: the nodes differ", place());
+    }
     wanted
 }
 
 pub fn plan(session: Session, out_len: usize) -> Repairs {
     let mut out = Guarded::filled(out_len);
     let mut expected = out.bytes().to_vec();
-    let got = library::plan(session, out.bytes_mut());
     let wanted = planner::plan(session, &mut expected);
     let place = || format!("plan {session:?} into {out_len}");
-    assert_eq!(got, wanted, "{}", place());
-    let as_wanted = written_as(&out, &expected);
-    let bytes = || [out.bytes(), &expected].map(shown).join(", not ");
-    assert!(as_wanted, "{}: {}", place(), bytes());
+    for plan in [library::plan, raw::plan] {
+        assert_eq!(plan(session, out.bytes_mut()), wanted, "{}", place());
+        let as_wanted = written_as(&out, &expected);
+        let bytes = || [out.bytes(), &expected].map(shown).join(", not ");
+        assert!(as_wanted, "{}: {}", place(), bytes());
+    }
     wanted
 }

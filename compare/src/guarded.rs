@@ -1,59 +1,79 @@
-//! Buffers that show what a call wrote, beside them too.
+//! Buffers that show what a call wrote, beside them too, and stop a call that reads beside them.
+use crate::pages::{Pages, ROOM};
+use std::cell::Cell;
 use std::hint::black_box;
+use std::ops::Range;
+use std::sync::LazyLock;
 
 const GUARD: usize = 64;
 
-/// Bytes to lend, between two guards.
+/// What a buffer holds before it is written, and its guard.
+static PATTERN: LazyLock<Vec<u8>> = LazyLock::new(|| {
+    let byte = |place: usize| (place * 167 + 13) as u8;
+    (0..ROOM).map(byte).collect()
+});
+
+/// Bytes to lend, with a guard of bytes on one side and a page that cannot be read on the other.
 pub struct Guarded {
     before: Vec<u8>,
-    now: Vec<u8>,
+    now: Pages,
+    lent: Range<usize>,
+}
+
+thread_local! {
+    // buffers take turns in having their guard before and after them
+    static GUARD_FIRST: Cell<bool> = const { Cell::new(false) };
 }
 
 impl Guarded {
-    /// A buffer filled with a pattern, as its guards are.
+    /// A buffer filled with a pattern.
     pub fn filled(len: usize) -> Guarded {
-        let before: Vec<u8> = (0..GUARD + len + GUARD).map(pattern).collect();
-        Guarded {
-            now: before.clone(),
-            before,
-        }
+        Guarded::holding(&PATTERN[..len])
     }
 
     /// A buffer that holds these bytes.
     pub fn holding(bytes: &[u8]) -> Guarded {
-        let mut buffer = Guarded::filled(bytes.len());
-        buffer.bytes_mut().copy_from_slice(bytes);
-        buffer.before.clone_from(&buffer.now);
+        let len = bytes.len();
+        let guard = &PATTERN[..GUARD];
+        let (before, now, lent) = match GUARD_FIRST.replace(!GUARD_FIRST.get()) {
+            true => (
+                [guard, bytes].concat(),
+                Pages::at_end(GUARD + len),
+                GUARD..GUARD + len,
+            ),
+            false => (
+                [bytes, guard].concat(),
+                Pages::at_start(len + GUARD),
+                0..len,
+            ),
+        };
+        let mut buffer = Guarded { before, now, lent };
+        buffer.restore();
         buffer
     }
 
     pub fn bytes(&self) -> &[u8] {
-        &self.now[GUARD..self.now.len() - GUARD]
+        &self.now.bytes()[self.lent.clone()]
     }
 
     pub fn bytes_mut(&mut self) -> &mut [u8] {
-        let end = self.now.len() - GUARD;
-        &mut self.now[GUARD..end]
+        &mut self.now.bytes_mut()[self.lent.clone()]
     }
 
-    /// Whether all is as it was when the buffer was made, guards included.
+    /// Whether all is as it was when the buffer was made, the guard included.
     pub fn untouched(&self) -> bool {
         // the compiler may not take it that a lent buffer stayed as it was
-        *black_box(&self.now) == self.before
+        *black_box(self.now.bytes()) == self.before
     }
 
     pub fn guards_untouched(&self) -> bool {
-        let now = black_box(&self.now);
-        let end = now.len() - GUARD;
-        now[..GUARD] == self.before[..GUARD] && now[end..] == self.before[end..]
+        let now = black_box(self.now.bytes());
+        let Range { start, end } = self.lent;
+        now[..start] == self.before[..start] && now[end..] == self.before[end..]
     }
 
     /// Puts back what the buffer held when it was made.
     pub fn restore(&mut self) {
-        self.now.clone_from(&self.before);
+        self.now.bytes_mut().copy_from_slice(&self.before);
     }
-}
-
-fn pattern(place: usize) -> u8 {
-    (place * 167 + 13) as u8
 }

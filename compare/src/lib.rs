@@ -2,16 +2,20 @@
 //! hold against them.
 #![deny(unsafe_code)]
 
+pub mod answers;
 pub mod boxes;
 pub mod calls;
 pub mod guarded;
-#[allow(unsafe_code)]
 pub mod library;
 pub mod live_sets;
 pub mod open;
+#[allow(unsafe_code)]
+mod pages;
 pub mod papers;
 pub mod planner;
 pub mod random;
+#[allow(unsafe_code)]
+pub mod raw;
 pub mod samples;
 pub mod tally;
 pub mod triples;

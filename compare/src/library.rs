@@ -1,244 +1,156 @@
-//! The exports of the static library in safe Rust; the only unsafe code here.
-use std::fmt;
-
-/// How many marks a session holds, by node number.
-pub const MARKS: usize = 256;
-
-/// A session, by value: 1 marks a live node and 0 a missing one, and a caller may hand in anything.
-#[repr(C)]
-#[derive(Clone, Copy, PartialEq, Eq)]
-pub struct Session {
-    pub family: usize,
-    pub k: usize,
-    pub len: usize,
-    pub live: [u8; MARKS],
-}
-
-/// What a start or a box gives.
-#[repr(C)]
-#[derive(Clone, Copy, Debug, PartialEq, Eq)]
-pub struct Started {
-    pub refusal: u8,
-    pub session: Session,
-}
-
-/// What writing a box gives, with the box's length.
-#[repr(C)]
-#[derive(Clone, Copy, Debug, PartialEq, Eq)]
-pub struct Written {
-    pub refusal: u8,
-    pub length: usize,
-    pub session: Session,
-}
-
-/// What reading out gives, with the data block that goes with 14.
-#[repr(C)]
-#[derive(Clone, Copy, Debug, PartialEq, Eq)]
-pub struct ReadOut {
-    pub refusal: u8,
-    pub block: usize,
-    pub session: Session,
-}
-
-/// What a step gives, with the next session.
-#[repr(C)]
-#[derive(Clone, Copy, Debug, PartialEq, Eq)]
-pub struct Stepped {
-    pub refusal: u8,
-    pub session: Session,
-}
-
-/// What a plan or a run gives: its counts, and the session, which for a run is the next one.
-#[repr(C)]
-#[derive(Clone, Copy, Debug, PartialEq, Eq)]
-pub struct Repairs {
-    pub refusal: u8,
-    pub steps: usize,
-    pub rounds: usize,
-    pub left: usize,
-    pub session: Session,
-}
-
-/// A part of a box: `length` bytes from place `from` on.
-#[repr(C)]
-#[derive(Clone, Copy, Debug, PartialEq, Eq)]
-pub struct Part {
-    pub refusal: u8,
-    pub from: usize,
-    pub length: usize,
-}
-
-/// The marks that are not 0 alone, as most are.
-impl fmt::Debug for Session {
-    fn fmt(&self, f: &mut fmt::Formatter) -> fmt::Result {
-        write!(f, "family {} k {} L {} ", self.family, self.k, self.len)?;
-        let marked = self.live.iter().enumerate().filter(|(_, mark)| **mark != 0);
-        f.debug_map().entries(marked).finish()
-    }
-}
-
-unsafe extern "C" {
-    fn mogtriz_encode(
-        family: usize,
-        k: usize,
-        len: usize,
-        object: *const u8,
-        object_len: usize,
-        nodes: *mut u8,
-        nodes_len: usize,
-    ) -> u8;
-    safe fn mogtriz_node_count(family: usize, k: usize) -> usize;
-    safe fn mogtriz_column(family: usize, k: usize, node: usize) -> usize;
-    safe fn mogtriz_node_of_column(family: usize, k: usize, column: usize) -> usize;
-    safe fn mogtriz_related(family: usize, k: usize, a: usize, b: usize, c: usize) -> u8;
-    fn mogtriz_start(
-        family: usize,
-        k: usize,
-        len: usize,
-        list: *const u8,
-        list_len: usize,
-    ) -> Started;
-    fn mogtriz_check(bytes: *const u8, bytes_len: usize) -> Started;
-    fn mogtriz_read(
-        bytes: *const u8,
-        bytes_len: usize,
-        nodes: *mut u8,
-        nodes_len: usize,
-    ) -> Started;
-    fn mogtriz_body(bytes: *const u8, bytes_len: usize, node: usize) -> Part;
-    fn mogtriz_write(
-        session: Session,
-        nodes: *const u8,
-        nodes_len: usize,
-        list: *const u8,
-        list_len: usize,
-        out: *mut u8,
-        out_len: usize,
-    ) -> Written;
-    fn mogtriz_read_out(
-        session: Session,
-        nodes: *const u8,
-        nodes_len: usize,
-        object: *mut u8,
-        object_len: usize,
-    ) -> ReadOut;
-    fn mogtriz_step(
-        session: Session,
-        nodes: *mut u8,
-        nodes_len: usize,
-        node: usize,
-        first: usize,
-        second: usize,
-    ) -> Stepped;
-    fn mogtriz_plan(session: Session, out: *mut u8, out_len: usize) -> Repairs;
-    fn mogtriz_run(session: Session, nodes: *mut u8, nodes_len: usize) -> Repairs;
-}
-
-// SAFETY, for every call below: each pointer comes with its slice's length, and a slice borrowed as mutable
-// overlaps no other.
+//! The library by its Rust package, its answers put as the papers have them. What a refusal comes with besides its number
+//! and session is not in the package's; the zeros here stand for it, and `raw` has what C gives.
+use crate::answers::{Part, ReadOut, Repairs, Session, Started, Stepped, Written};
+use mogtriz::{Refusal, Refused};
 
 pub fn encode(family: usize, k: usize, len: usize, object: &[u8], nodes: &mut [u8]) -> u8 {
-    // SAFETY: as above.
-    unsafe {
-        mogtriz_encode(
-            family,
-            k,
-            len,
-            object.as_ptr(),
-            object.len(),
-            nodes.as_mut_ptr(),
-            nodes.len(),
-        )
-    }
+    let answer = mogtriz::encode(family, k, len, object, nodes);
+    answer.map_or_else(Refusal::number, |()| 0)
 }
 
 pub fn node_count(family: usize, k: usize) -> usize {
-    mogtriz_node_count(family, k)
+    mogtriz::node_count(family, k).unwrap_or(0)
 }
 
 pub fn column(family: usize, k: usize, node: usize) -> usize {
-    mogtriz_column(family, k, node)
+    mogtriz::column(family, k, node).unwrap_or(0)
 }
 
 pub fn node_of_column(family: usize, k: usize, column: usize) -> usize {
-    mogtriz_node_of_column(family, k, column)
+    mogtriz::node_of_column(family, k, column).unwrap_or(0)
 }
 
 pub fn related(family: usize, k: usize, nodes: [usize; 3]) -> u8 {
-    let [a, b, c] = nodes;
-    mogtriz_related(family, k, a, b, c)
+    mogtriz::related(family, k, nodes).into()
 }
 
 pub fn start(family: usize, k: usize, len: usize, list: &[u8]) -> Started {
-    // SAFETY: as above.
-    unsafe { mogtriz_start(family, k, len, list.as_ptr(), list.len()) }
+    started(mogtriz::Session::start(family, k, len, list))
 }
 
 pub fn check(bytes: &[u8]) -> Started {
-    // SAFETY: as above.
-    unsafe { mogtriz_check(bytes.as_ptr(), bytes.len()) }
+    started(mogtriz::Session::check(bytes))
 }
 
 pub fn read(bytes: &[u8], nodes: &mut [u8]) -> Started {
-    // SAFETY: as above.
-    unsafe { mogtriz_read(bytes.as_ptr(), bytes.len(), nodes.as_mut_ptr(), nodes.len()) }
+    started(mogtriz::Session::read(bytes, nodes))
 }
 
+/// The place is that of the part itself, so that a copy would not do.
 pub fn body(bytes: &[u8], node: usize) -> Part {
-    // SAFETY: as above.
-    unsafe { mogtriz_body(bytes.as_ptr(), bytes.len(), node) }
+    match mogtriz::body(bytes, node) {
+        Ok(part) => Part {
+            refusal: 0,
+            from: part.as_ptr().addr() - bytes.as_ptr().addr(),
+            length: part.len(),
+        },
+        Err(refusal) => Part {
+            refusal: refusal.number(),
+            from: 0,
+            length: 0,
+        },
+    }
 }
 
 pub fn write(session: Session, nodes: &[u8], list: &[u8], out: &mut [u8]) -> Written {
-    // SAFETY: as above.
-    unsafe {
-        mogtriz_write(
-            session,
-            nodes.as_ptr(),
-            nodes.len(),
-            list.as_ptr(),
-            list.len(),
-            out.as_mut_ptr(),
-            out.len(),
-        )
+    match handed_in(session).write(nodes, list, out) {
+        Ok(written) => Written {
+            refusal: 0,
+            length: written.length,
+            session: given_back(&written.session),
+        },
+        Err(refused) => Written {
+            refusal: refused.refusal.number(),
+            length: 0,
+            session: given_back(&refused.session),
+        },
     }
 }
 
 pub fn read_out(session: Session, nodes: &[u8], object: &mut [u8]) -> ReadOut {
-    // SAFETY: as above.
-    unsafe {
-        mogtriz_read_out(
-            session,
-            nodes.as_ptr(),
-            nodes.len(),
-            object.as_mut_ptr(),
-            object.len(),
-        )
+    match handed_in(session).read_out(nodes, object) {
+        Ok(session) => ReadOut {
+            refusal: 0,
+            block: 0,
+            session: given_back(&session),
+        },
+        Err(refused) => ReadOut {
+            refusal: refused.refusal.number(),
+            block: block_of(refused.refusal),
+            session: given_back(&refused.session),
+        },
     }
 }
 
 /// The triple is the node to repair and the two that it comes from.
 pub fn step(session: Session, nodes: &mut [u8], triple: [usize; 3]) -> Stepped {
     let [node, first, second] = triple;
-    // SAFETY: as above.
-    unsafe {
-        mogtriz_step(
-            session,
-            nodes.as_mut_ptr(),
-            nodes.len(),
-            node,
-            first,
-            second,
-        )
-    }
+    let stepped = handed_in(session).step(nodes, node, [first, second]);
+    let Started { refusal, session } = started(stepped);
+    Stepped { refusal, session }
 }
 
 pub fn plan(session: Session, out: &mut [u8]) -> Repairs {
-    // SAFETY: as above.
-    unsafe { mogtriz_plan(session, out.as_mut_ptr(), out.len()) }
+    repairs(handed_in(session).plan(out))
 }
 
 pub fn run(session: Session, nodes: &mut [u8]) -> Repairs {
-    // SAFETY: as above.
-    unsafe { mogtriz_run(session, nodes.as_mut_ptr(), nodes.len()) }
+    repairs(handed_in(session).run(nodes))
+}
+
+/// A session of any content, for the package.
+pub fn handed_in(session: Session) -> mogtriz::Session {
+    let Session {
+        family,
+        k,
+        len,
+        live,
+    } = session;
+    mogtriz::Session::from_parts(family, k, len, live)
+}
+
+fn given_back(session: &mogtriz::Session) -> Session {
+    Session {
+        family: session.family(),
+        k: session.k(),
+        len: session.block_len(),
+        live: *session.marks(),
+    }
+}
+
+fn started(answer: Result<mogtriz::Session, Refused>) -> Started {
+    let (refusal, session) = match answer {
+        Ok(session) => (0, session),
+        Err(refused) => (refused.refusal.number(), refused.session),
+    };
+    Started {
+        refusal,
+        session: given_back(&session),
+    }
+}
+
+fn block_of(refusal: Refusal) -> usize {
+    match refusal {
+        Refusal::BlockMissing { block } => block,
+        _ => 0,
+    }
+}
+
+fn repairs(answer: Result<mogtriz::Repairs, Refused>) -> Repairs {
+    match answer {
+        Ok(repairs) => Repairs {
+            refusal: 0,
+            steps: repairs.steps,
+            rounds: repairs.rounds,
+            left: repairs.left,
+            session: given_back(&repairs.session),
+        },
+        Err(refused) => Repairs {
+            refusal: refused.refusal.number(),
+            steps: 0,
+            rounds: 0,
+            left: 0,
+            session: given_back(&refused.session),
+        },
+    }
 }

@@ -1,6 +1,6 @@
 //! Shapes, node lists, sessions and lengths to call the library with, sound and faulty.
+use crate::answers::{MARKS, Session};
 use crate::boxes;
-use crate::library::{MARKS, Session};
 use crate::papers::node_count;
 use crate::random::Random;
 

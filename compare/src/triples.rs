@@ -1,6 +1,6 @@
 //! The three numbers to call a step with, right and wrong: the node to repair and the two that it comes from.
+use crate::answers::Session;
 use crate::boxes::missing_nodes;
-use crate::library::Session;
 use crate::papers::columns_of;
 use crate::planner::pairs;
 use crate::random::Random;

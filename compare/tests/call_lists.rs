@@ -1,8 +1,8 @@
 //! Lists of steps and runs, right and wrong ones, each getting the session that the one before gave back: what is
 //! missing once no pair is left are the nodes that were open at the start, and runs and plans count just these.
+use compare::answers::Session;
 use compare::boxes::{check_session, live_nodes, missing_nodes};
 use compare::calls;
-use compare::library::Session;
 use compare::live_sets::LiveSets;
 use compare::open::open_nodes;
 use compare::papers::every_code;

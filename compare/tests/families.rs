@@ -1,7 +1,7 @@
 //! The families over every k: node counts, columns, their inverse, and which nodes are related.
-use compare::library;
 use compare::papers::{Code, FAMILIES, every_code, node_count, range_of_k};
 use compare::random::Random;
+use compare::{library, raw};
 
 const LARGE: usize = 1 << 32;
 
@@ -151,9 +151,11 @@ impl Triples {
     fn compare(&mut self, code: &Code, columns: &[usize], triple: [usize; 3]) {
         let nodes = triple.iter().all(|node| (1..=columns.len()).contains(node));
         let expected = nodes && triple.iter().fold(0, |sum, node| sum ^ columns[node - 1]) == 0;
-        let related = library::related(code.family, code.k, triple);
         let place = place(code);
-        assert_eq!(related, u8::from(expected), "{place} nodes {triple:?}");
+        for related in [library::related, raw::related] {
+            let related = related(code.family, code.k, triple);
+            assert_eq!(related, u8::from(expected), "{place} nodes {triple:?}");
+        }
         self.0[usize::from(expected)] += 1;
     }
 

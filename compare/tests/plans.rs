@@ -1,14 +1,14 @@
 //! Plans and runs of sets of live nodes: every set of the small codes, and many of the others, against the
 //! papers' model and against the open nodes by elimination.
+use compare::answers::{Repairs, Session};
 use compare::boxes::{block_at, live_nodes, missing_nodes};
-use compare::calls;
 use compare::guarded::Guarded;
-use compare::library::{self, Repairs, Session};
 use compare::live_sets::LiveSets;
 use compare::open::{open_by_differences, open_nodes};
 use compare::papers::{Code, every_code};
 use compare::random::Random;
 use compare::samples::{Shape, nodes_in};
+use compare::{calls, library};
 
 /// What the sets came to.
 #[derive(Default)]

@@ -1,7 +1,8 @@
 //! What is put in comes out again: nodes through a box, a box through its nodes, an object through all of it.
+use compare::answers::{Session, Started};
 use compare::boxes::{self, HEAD, box_len};
 use compare::guarded::Guarded;
-use compare::library::{self, Session, Started};
+use compare::library;
 use compare::papers::{Code, every_code};
 use compare::random::Random;
 use compare::samples::{Shape, shapes, some_of};

@@ -1,8 +1,8 @@
 //! Starting, writing a box and reading out, against the papers' model, over sessions, lists and buffers of
 //! every content and length.
+use compare::answers::Session;
 use compare::boxes::{self, box_len, live_nodes};
 use compare::calls;
-use compare::library::Session;
 use compare::papers::code;
 use compare::random::Random;
 use compare::samples::{

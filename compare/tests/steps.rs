@@ -1,8 +1,8 @@
 //! Single steps, plans and runs against the papers' model, over sessions, nodes and buffers of every content
 //! and length.
+use compare::answers::Session;
 use compare::boxes::check_session;
 use compare::calls;
-use compare::library::Session;
 use compare::planner::plan_of;
 use compare::random::Random;
 use compare::samples::{

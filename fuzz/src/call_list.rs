@@ -1,0 +1,144 @@
+//! A start and a list of calls, each getting the session that the one before gave back; after it, what is missing once no
+//! pair is left are the nodes that were open at the start.
+use crate::input::Input;
+use crate::seen::Operation::{Plan, ReadOut, Run, Start, Step, Write};
+use crate::seen::count;
+use compare::answers::Session;
+use compare::boxes::{self, box_len, live_nodes, missing_nodes};
+use compare::calls;
+use compare::open::open_nodes;
+use compare::planner::pairs;
+
+struct List {
+    session: Session,
+    /// As the last call left them.
+    nodes: Vec<u8>,
+    /// The nodes open at the start, unless no start gives the session.
+    open: Option<Vec<u8>>,
+}
+
+pub fn compare(input: &mut Input) {
+    let mut list = List::start(input);
+    while !input.is_empty() {
+        list.call(input);
+    }
+    list.finish();
+}
+
+impl List {
+    fn start(input: &mut Input) -> List {
+        let [family, k, len] = [(); 3].map(|()| input.number());
+        let live = input.list();
+        let number = count(Start, calls::start(family, k, len, &live));
+        let session = boxes::start(family, k, len, &live).session;
+        let nodes_len = input.nodes_len(&session);
+        List {
+            session,
+            nodes: (0..nodes_len).map(|place| (place * 31 + 7) as u8).collect(),
+            open: (number == 0).then(|| open_nodes(family, k, &live)),
+        }
+    }
+
+    fn call(&mut self, input: &mut Input) {
+        match input.byte() % 9 {
+            0 => self.step([(); 3].map(|()| input.number())),
+            1 | 2 => self.right_step(input),
+            3 => self.run(),
+            4 => self.plan(input),
+            5 => self.write(input),
+            6 => self.read_out(input),
+            7 => {
+                let length = input.nodes_len(&self.session);
+                self.nodes.resize(length, 0xa5);
+            }
+            _ => self.change(input),
+        }
+    }
+
+    fn step(&mut self, triple: [usize; 3]) {
+        let stepped = calls::step(self.session, &mut self.nodes, triple);
+        count(Step, stepped.refusal);
+        self.session = stepped.session;
+    }
+
+    /// A step that is accepted if the nodes are, where there is one.
+    fn right_step(&mut self, input: &mut Input) {
+        let [which, pair] = [(); 2].map(|()| usize::from(input.byte()));
+        if self.open.is_none() {
+            return;
+        }
+        let missing = missing_nodes(&self.session);
+        let Some(&node) = missing.get(which % missing.len().max(1)) else {
+            return;
+        };
+        let pairs = pairs(&self.session, node);
+        if let Some(&[first, second]) = pairs.get(pair % pairs.len().max(1)) {
+            self.step([node, first, second].map(usize::from));
+        }
+    }
+
+    fn run(&mut self) {
+        let run = calls::run(self.session, &mut self.nodes);
+        self.session = run.session;
+        if count(Run, run.refusal) == 0 {
+            self.compare_left(run.left);
+        }
+    }
+
+    fn plan(&mut self, input: &mut Input) {
+        let plan = calls::plan(self.session, 4 * 255);
+        if count(Plan, plan.refusal) == 0 {
+            self.compare_left(plan.left);
+            let room = input.length_near(4 * plan.steps);
+            count(Plan, calls::plan(self.session, room).refusal);
+        }
+    }
+
+    /// Nodes left are the open ones, where the session came from a start.
+    fn compare_left(&self, left: usize) {
+        if let Some(open) = &self.open {
+            assert_eq!(left, open.len(), "{:?}", self.session);
+        }
+    }
+
+    fn write(&mut self, input: &mut Input) {
+        let list = input.list();
+        let held = match list.len() {
+            0 => live_nodes(&self.session).len(),
+            count => count,
+        };
+        let exact = box_len(held, self.session.len.min(4096));
+        let room = input.length_near(exact);
+        count(Write, calls::write(self.session, &self.nodes, &list, room));
+    }
+
+    fn read_out(&mut self, input: &mut Input) {
+        let exact = self.session.k.saturating_mul(self.session.len);
+        let room = input.length_near(exact);
+        count(ReadOut, calls::read_out(self.session, &self.nodes, room));
+    }
+
+    /// A session of any content, to go on with.
+    fn change(&mut self, input: &mut Input) {
+        self.open = None;
+        match input.byte() % 4 {
+            0 => self.session.family = input.number(),
+            1 => self.session.k = input.number(),
+            2 => self.session.len = input.number(),
+            _ => self.session.live[usize::from(input.byte())] = input.byte(),
+        }
+    }
+
+    fn finish(self) {
+        let Some(open) = self.open else {
+            return;
+        };
+        let missing = missing_nodes(&self.session);
+        let pair_left = missing
+            .iter()
+            .any(|&node| !pairs(&self.session, node).is_empty());
+        if !pair_left {
+            assert_eq!(missing, open, "{:?}", self.session);
+        }
+    }
+}

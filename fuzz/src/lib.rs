@@ -1,0 +1,24 @@
+//! The fuzzer's inputs made into calls of the library, each held against the papers' model by `compare::calls`. The model
+//! is compiled with counters that the fuzzer follows, so that it looks for inputs that take new ways through the papers'
+//! rules.
+mod boxed;
+mod call_list;
+mod input;
+mod seen;
+
+use input::Input;
+use std::ffi::c_int;
+
+/// # Safety
+/// The fuzzer lends `size` bytes.
+#[unsafe(no_mangle)]
+pub unsafe extern "C" fn LLVMFuzzerTestOneInput(data: *const u8, size: usize) -> c_int {
+    // SAFETY: as the fuzzer says.
+    let bytes = unsafe { std::slice::from_raw_parts(data, size) };
+    let mut input = Input(bytes);
+    match input.byte() % 2 {
+        0 => boxed::compare(&mut input),
+        _ => call_list::compare(&mut input),
+    }
+    0
+}

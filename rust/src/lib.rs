@@ -1,0 +1,57 @@
+//! Data blocks spread over nodes, each node the bytewise XOR of some of them; boxes of nodes; lost nodes repaired as
+//! the XOR of two others.
+//!
+//! An object is k data blocks of L bytes, block 1 first. Nodes have numbers 1 to n; node j's block is the part of the
+//! nodes buffer from (j − 1) × L up to j × L.
+//!
+//! | family | code | k | n |
+//! |---|---|---|---|
+//! | 1, [`SIMPLEX`] | simplex | 2 to 8 | 2^k − 1 |
+//! | 2, [`WEIGHT_TWO`] | weight-two | 2 to 22 | k(k + 1) / 2 |
+//! | 3, [`TETRAHEDRON`] | tetrahedron | 4 | 14 |
+//!
+//! Any number, buffer, box or session may be handed in: a call serves it or turns it away with a [`Refusal`], and then
+//! writes nothing. The library behind is proved to do so; this package is its safe form in Rust.
+//!
+//! ```
+//! use mogtriz::{Refusal, SIMPLEX, Session};
+//!
+//! // an object of 3 blocks of 4 bytes becomes 7 nodes
+//! let object = *b"dialect tape";
+//! let mut nodes = [0; 7 * 4];
+//! mogtriz::encode(SIMPLEX, 3, 4, &object, &mut nodes)?;
+//!
+//! // nodes 1, 2, 3 and 6 are lost, and repaired from the others
+//! for node in [1, 2, 3, 6] {
+//!     nodes[(node - 1) * 4..node * 4].fill(0);
+//! }
+//! let session = Session::start(SIMPLEX, 3, 4, &[4, 5, 7])?;
+//! let repairs = session.run(&mut nodes)?;
+//! assert_eq!((repairs.steps, repairs.rounds, repairs.left), (4, 2, 0));
+//!
+//! // the object is read out of the nodes
+//! let mut again = [0; 12];
+//! repairs.session.read_out(&nodes, &mut again)?;
+//! assert_eq!(again, object);
+//! # Ok::<(), Refusal>(())
+//! ```
+#![deny(unsafe_code)]
+#![warn(missing_docs)]
+// a session goes by value whether a call is served or not
+#![allow(clippy::result_large_err)]
+
+mod boxes;
+mod codes;
+#[allow(unsafe_code)]
+mod raw;
+mod refusal;
+mod repair;
+mod session;
+
+pub use boxes::{Written, body};
+pub use codes::{
+    SIMPLEX, TETRAHEDRON, WEIGHT_TWO, column, encode, node_count, node_of_column, related,
+};
+pub use refusal::{Refusal, Refused};
+pub use repair::Repairs;
+pub use session::{MARKS, Session};
