@@ -1,7 +1,7 @@
 //! Reading and writing a box of every node, timed against copying the same bodies one by one in Rust.
 use crate::rivals::{self, Family};
 use crate::table::{Line, Table};
-use crate::timing::{Aligned, Way, compare_and_measure};
+use crate::timing::{Aligned, Meter, Way};
 use compare::boxes::HEAD;
 use compare::library::handed_in;
 use compare::random::Random;
@@ -42,7 +42,7 @@ impl Full {
         HEAD + self.list.len()
     }
 
-    fn read(&self) -> Vec<Vec<f64>> {
+    fn read(&self, meter: &mut Meter) -> Vec<Vec<f64>> {
         let mogtriz = |bytes: &[u8], nodes: &mut [u8]| {
             mogtriz::Session::read(bytes, nodes).expect("a sound box");
         };
@@ -52,10 +52,10 @@ impl Full {
         };
         let ways: [Way; 2] = [&mogtriz, &rust];
         let mut nodes = Aligned::unfilled(self.shape.nodes_len());
-        compare_and_measure(&ways, self.bytes.bytes(), &mut nodes, self.nodes.bytes(), 0)
+        meter.compare_and_measure(&ways, self.bytes.bytes(), &mut nodes, self.nodes.bytes(), 0)
     }
 
-    fn write(&self) -> Vec<Vec<f64>> {
+    fn write(&self, meter: &mut Meter) -> Vec<Vec<f64>> {
         let session = handed_in(self.shape.session(&self.list));
         let mogtriz = |nodes: &[u8], out: &mut [u8]| {
             let written = session.clone().write(nodes, &[], out);
@@ -69,7 +69,7 @@ impl Full {
         let mut out = Aligned::unfilled(self.bytes.bytes().len());
         // the copies leave out what stands before the bodies
         let from = self.bodies_from();
-        compare_and_measure(
+        meter.compare_and_measure(
             &ways,
             self.nodes.bytes(),
             &mut out,
@@ -79,11 +79,13 @@ impl Full {
     }
 }
 
-fn table(title: &'static str, random: &mut Random, time: fn(&Full) -> Vec<Vec<f64>>) -> Table {
+type Measured = fn(&Full, &mut Meter) -> Vec<Vec<f64>>;
+
+fn table(title: &'static str, random: &mut Random, meter: &mut Meter, measured: Measured) -> Table {
     let line = |(family, k, len): (Family, usize, usize)| Line {
         name: family.name(k, format!("L {len}")),
         goals: vec![Some(GOAL)],
-        times: time(&Full::new(family, k, len, random)),
+        measured: measured(&Full::new(family, k, len, random), meter),
     };
     Table {
         title,
@@ -92,9 +94,9 @@ fn table(title: &'static str, random: &mut Random, time: fn(&Full) -> Vec<Vec<f6
     }
 }
 
-pub fn tables(random: &mut Random) -> [Table; 2] {
+pub fn tables(random: &mut Random, meter: &mut Meter) -> [Table; 2] {
     [
-        table("read a box", random, Full::read),
-        table("write a box", random, Full::write),
+        table("read a box", random, meter, Full::read),
+        table("write a box", random, meter, Full::write),
     ]
 }

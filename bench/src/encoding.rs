@@ -3,7 +3,7 @@
 use crate::isal;
 use crate::rivals::{self, Family};
 use crate::table::{Line, Table};
-use crate::timing::{Aligned, Way, compare_and_measure};
+use crate::timing::{Aligned, Meter, Way};
 use compare::papers;
 use compare::random::Random;
 
@@ -16,25 +16,27 @@ struct Case {
     goals: [Option<f64>; 3],
 }
 
-fn simplex(len: usize) -> Case {
+const RECORDED: [Option<f64>; 3] = [None; 3];
+
+fn simplex(len: usize, goals: [Option<f64>; 3]) -> Case {
     Case {
         family: Family::Simplex,
         k: 8,
         len,
-        goals: [Some(1.1), Some(1.0), Some(1.6)],
+        goals,
     }
 }
 
-fn weight_two(len: usize) -> Case {
+fn weight_two(len: usize, goals: [Option<f64>; 3]) -> Case {
     Case {
         family: Family::WeightTwo,
         k: 22,
         len,
-        goals: [Some(1.1), None, None],
+        goals,
     }
 }
 
-fn run(case: Case, random: &mut Random) -> Line {
+fn run(case: Case, random: &mut Random, meter: &mut Meter) -> Line {
     let Case { family, k, len, .. } = case;
     let number = family as usize;
     let object = Aligned::holding(&random.bytes(k * len));
@@ -56,20 +58,24 @@ fn run(case: Case, random: &mut Random) -> Line {
     Line {
         name: family.name(k, format!("L {len}")),
         goals: case.goals.to_vec(),
-        times: compare_and_measure(&ways, object.bytes(), &mut nodes, expected.bytes(), 0),
+        measured: meter.compare_and_measure(&ways, object.bytes(), &mut nodes, expected.bytes(), 0),
     }
 }
 
-pub fn table(random: &mut Random) -> Table {
+pub fn table(random: &mut Random, meter: &mut Meter) -> Table {
+    let simplex_goals = [Some(1.1), Some(1.0), Some(1.6)];
+    let weight_two_goals = [Some(1.1), None, None];
     let cases = [
-        simplex(1536),
-        simplex(4096),
-        weight_two(1536),
-        weight_two(4096),
+        simplex(64, RECORDED),
+        simplex(1536, simplex_goals),
+        simplex(4096, simplex_goals),
+        weight_two(64, RECORDED),
+        weight_two(1536, weight_two_goals),
+        weight_two(4096, weight_two_goals),
     ];
     Table {
         title: "encode",
         ways: &WAYS,
-        lines: cases.map(|case| run(case, random)).into(),
+        lines: cases.map(|case| run(case, random, meter)).into(),
     }
 }

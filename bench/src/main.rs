@@ -1,5 +1,7 @@
-//! Encoding, boxes, plans and runs, timed against other ways to fill the same buffers.
+//! Encoding, boxes, plans and runs, timed against other ways to fill the same buffers; with `--count`, the instructions of
+//! one call of each.
 mod boxes;
+mod counting;
 mod encoding;
 mod isal;
 mod repairs;
@@ -8,17 +10,45 @@ mod table;
 mod timing;
 
 use compare::random::Random;
-use timing::ROUNDS;
+use std::{env, io, process};
+use table::Table;
+use timing::{Meter, ROUNDS};
 
-fn main() {
+fn main() -> io::Result<()> {
+    let words: Vec<String> = env::args().skip(1).collect();
+    match words.iter().map(String::as_str).collect::<Vec<_>>()[..] {
+        [] => print_times(&tables(Meter::Clock)),
+        ["--count"] => {
+            let counts = counting::counts()?;
+            print_counts(&tables(Meter::Counted(counts.into_iter())));
+        }
+        [counting::ONCE] => drop(tables(Meter::Once)),
+        _ => {
+            eprintln!("usage: bash bench/run [--count]");
+            process::exit(2);
+        }
+    }
+    Ok(())
+}
+
+fn tables(mut meter: Meter) -> [Table; 5] {
     let mut random = Random::seeded();
-    let [read, write] = boxes::tables(&mut random);
-    let encode = encoding::table(&mut random);
-    let [plan, run] = [repairs::plans(), repairs::runs(&mut random)];
-    let tables = [encode, read, write, plan, run];
+    let [read, write] = boxes::tables(&mut random, &mut meter);
+    let encode = encoding::table(&mut random, &mut meter);
+    let plan = repairs::plans(&mut meter);
+    let run = repairs::runs(&mut random, &mut meter);
+    [encode, read, write, plan, run]
+}
+
+fn print_times(tables: &[Table]) {
     println!("all ways gave the same bytes; times in microseconds, {ROUNDS} repetitions by turns");
     println!("\nmedians");
     tables.iter().for_each(|table| table.print(ROUNDS / 2));
     println!("\nthe fastest tenth, which other work on the machine disturbs less");
     tables.iter().for_each(|table| table.print(ROUNDS / 10));
+}
+
+fn print_counts(tables: &[Table]) {
+    println!("all ways gave the same bytes; instructions of one call, by callgrind\n");
+    tables.iter().for_each(Table::print_counts);
 }

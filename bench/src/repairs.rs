@@ -3,7 +3,7 @@
 use crate::isal;
 use crate::rivals::{self, Family};
 use crate::table::{Line, Table};
-use crate::timing::{Aligned, Way, compare_and_measure};
+use crate::timing::{Aligned, Meter, Way};
 use compare::library::handed_in;
 use compare::papers::code;
 use compare::planner;
@@ -54,7 +54,7 @@ fn counts(answer: Result<Repairs, Refused>) -> [usize; 3] {
     [repairs.steps, repairs.rounds, repairs.left]
 }
 
-fn plan(case: Case) -> Line {
+fn plan(case: Case, meter: &mut Meter) -> Line {
     let Case { family, k, .. } = case;
     let shape = Shape {
         family: family as usize,
@@ -78,11 +78,11 @@ fn plan(case: Case) -> Line {
     Line {
         name: family.name(k, case.word),
         goals: vec![Some(1.0)],
-        times: compare_and_measure(&ways, &[], &mut out, &expected, 0),
+        measured: meter.compare_and_measure(&ways, &[], &mut out, &expected, 0),
     }
 }
 
-pub fn plans() -> Table {
+pub fn plans(meter: &mut Meter) -> Table {
     let cases = [
         simplex("data", data_nodes()),
         simplex("1-127", (1..=127).collect()),
@@ -92,12 +92,12 @@ pub fn plans() -> Table {
     Table {
         title: "plan",
         ways: &["Mogtriz", "Rust"],
-        lines: cases.map(plan).into(),
+        lines: cases.map(|case| plan(case, meter)).into(),
     }
 }
 
 /// A repair of every node of simplex 8 from its data nodes.
-fn run(len: usize, random: &mut Random) -> Line {
+fn run(len: usize, goals: [Option<f64>; 3], random: &mut Random, meter: &mut Meter) -> Line {
     let (family, k) = (Family::Simplex, 8);
     let shape = Shape {
         family: family as usize,
@@ -127,15 +127,19 @@ fn run(len: usize, random: &mut Random) -> Line {
     let ways: [Way; 4] = [&mogtriz, &rust, &isal, &planned];
     Line {
         name: family.name(k, format!("L {len}")),
-        goals: vec![Some(1.3), Some(1.5), None],
-        times: compare_and_measure(&ways, &[], &mut nodes, &expected, 0),
+        goals: goals.to_vec(),
+        measured: meter.compare_and_measure(&ways, &[], &mut nodes, &expected, 0),
     }
 }
 
-pub fn runs(random: &mut Random) -> Table {
+pub fn runs(random: &mut Random, meter: &mut Meter) -> Table {
+    let goals = [Some(1.3), Some(1.5), None];
+    let cases = [(64, [None; 3]), (1536, goals), (4096, goals)];
     Table {
         title: "run",
         ways: &["Mogtriz", "Rust", "ISA-L", "Rust plan"],
-        lines: [1536, 4096].map(|len| run(len, random)).into(),
+        lines: cases
+            .map(|(len, goals)| run(len, goals, random, meter))
+            .into(),
     }
 }

@@ -1,4 +1,4 @@
-//! Tables of times and of ratios to goals.
+//! Tables of times or instructions and of ratios to goals.
 
 /// The names of the ways of a table, the library's first, and a line for each case.
 pub struct Table {
@@ -7,18 +7,18 @@ pub struct Table {
     pub lines: Vec<Line>,
 }
 
-/// A case with the sorted times of each way, and the most that the library may take of the time of each
-/// other way; `None` where it is only recorded.
+/// A case with the sorted times of each way, or its instructions alone, and the most that the library may take of the
+/// time of each other way; `None` where it is only recorded.
 pub struct Line {
     pub name: String,
     pub goals: Vec<Option<f64>>,
-    pub times: Vec<Vec<f64>>,
+    pub measured: Vec<Vec<f64>>,
 }
 
 impl Line {
     /// The times at a place in microseconds, and the library's as ratios to the others, each with its goal.
     fn text(&self, place: usize) -> String {
-        let times: Vec<f64> = self.times.iter().map(|of_way| of_way[place]).collect();
+        let times: Vec<f64> = self.measured.iter().map(|of_way| of_way[place]).collect();
         let mut text = format!("{:<22}", self.name);
         for time in &times {
             text += &format!(" {time:>9.2}");
@@ -45,6 +45,29 @@ impl Table {
         println!("{}", head.trim_end());
         for line in &self.lines {
             println!("{}", line.text(place));
+        }
+    }
+
+    /// The instructions of the library and of the ways in Rust, with ratios. Those of ISA-L and of a copy say little
+    /// beside them: they go by registers of other widths.
+    pub fn print_counts(&self) {
+        let ways = self.ways.iter().enumerate();
+        let in_rust: Vec<(usize, &str)> = ways
+            .filter(|(_, way)| way.starts_with("Rust"))
+            .map(|(i, way)| (i, *way))
+            .collect();
+        let mut head = format!("{:<22} {:>10}", self.title, self.ways[0]);
+        for (_, way) in &in_rust {
+            head += &format!(" {way:>10} {:>12}", format!("/ {way}"));
+        }
+        println!("{head}");
+        for line in &self.lines {
+            let count = |i: usize| line.measured[i][0];
+            let mut text = format!("{:<22} {:>10}", line.name, count(0));
+            for &(i, _) in &in_rust {
+                text += &format!(" {:>10} {:>12.2}", count(i), count(0) / count(i));
+            }
+            println!("{text}");
         }
     }
 }

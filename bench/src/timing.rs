@@ -1,6 +1,7 @@
-//! Times of several ways to fill one buffer.
+//! Times of several ways to fill one buffer, or the instructions that they take.
 use std::hint::black_box;
 use std::time::Instant;
+use std::vec::IntoIter;
 
 /// Repetitions of each way.
 pub const ROUNDS: usize = 2001;
@@ -41,24 +42,55 @@ impl Aligned {
 // Runs behind one reading of the clock.
 const RUNS: u32 = 4;
 
-/// The microseconds of a run, by way and in rising order, once each way gave the expected bytes from a place
-/// on, with the buffer as it is now before each.
-pub fn compare_and_measure(
-    ways: &[Way],
-    source: &[u8],
-    filled: &mut Aligned,
-    expected: &[u8],
-    from: usize,
-) -> Vec<Vec<f64>> {
-    let filled = filled.bytes_mut();
-    let before = filled.to_vec();
-    for (i, way) in ways.iter().enumerate() {
-        filled.copy_from_slice(&before);
-        way(source, filled);
-        let same = filled[from..] == expected[from..];
-        assert!(same, "way {} gives other bytes", i + 1);
+/// What is found out about each way.
+pub enum Meter {
+    /// The microseconds of its runs, in rising order.
+    Clock,
+    /// Nothing: it is called once for callgrind to count, outside this process.
+    Once,
+    /// How many instructions it took, as callgrind counted them in the same order.
+    Counted(IntoIter<f64>),
+}
+
+impl Meter {
+    /// What the meter finds out, by way, once each way gave the expected bytes from a place on, with the buffer as it is
+    /// now before each.
+    pub fn compare_and_measure(
+        &mut self,
+        ways: &[Way],
+        source: &[u8],
+        filled: &mut Aligned,
+        expected: &[u8],
+        from: usize,
+    ) -> Vec<Vec<f64>> {
+        let filled = filled.bytes_mut();
+        let before = filled.to_vec();
+        for (i, way) in ways.iter().enumerate() {
+            filled.copy_from_slice(&before);
+            way(source, filled);
+            let same = filled[from..] == expected[from..];
+            assert!(same, "way {} gives other bytes", i + 1);
+        }
+        match self {
+            Meter::Clock => measure(ways, source, filled),
+            Meter::Once => {
+                ways.iter()
+                    .for_each(|way| count_this_call(way, source, filled));
+                vec![vec![]; ways.len()]
+            }
+            Meter::Counted(counts) => {
+                let counts = ways.iter().map(|_| counts.next());
+                let count = |count: Option<f64>| vec![count.expect("a count for each call")];
+                counts.map(count).collect()
+            }
+        }
     }
-    measure(ways, source, filled)
+}
+
+/// A call by a name that callgrind knows: what happens in here is what it counts.
+#[inline(never)]
+fn count_this_call(way: Way, source: &[u8], filled: &mut [u8]) {
+    way(black_box(source), black_box(filled));
 }
 
 /// The ways take turns, and each round begins with another, so that what slows the machine down slows all of
