@@ -15,7 +15,7 @@ use Rattle.base.proofs.Tests.{not-both}
 use Rattle.families.specs.Families.{firstFrom}
 use Rattle.families.proofs.First.{first-of}
 use Rattle.planning.specs.Plan.{Step}
-use Rattle.listing.specs.Text.{digitCount, decimal, field, familyWord, kWord, lengthWord, liveWord, firstLine, space, stepLine, stepsWord, roundsWord, leftWord, lastLine, refusedWord, refusalLine}
+use Rattle.listing.specs.Text.{ascii, digitCount, decimal, field, firstLine, stepLine, lastLine, refusalLine}
 
 length-digits : (b k n : ℕ) → length (digits b k n) ≡ k
 length-digits b zero n = refl
@@ -75,18 +75,18 @@ byte-field word n h = omega (arith, length-field word n, decimal-most n 3 (omega
 pub first-line-most : (family k L live : ℕ) → family < 2 ^ 64 → k < 2 ^ 64 → L < 2 ^ 64 → live < 2 ^ 64 → length (firstLine family k L live) ≤ 105
 unfolding firstLine
 first-line-most family k L live f g h i =
-    simp length-append (omega (arith, wide-field familyWord family f, wide-field kWord k g, wide-field lengthWord L h, wide-field liveWord live i))
+    simp length-append (omega (arith, wide-field (ascii "family ") family f, wide-field (ascii " k ") k g, wide-field (ascii " length ") L h, wide-field (ascii " live ") live i))
 
 pub step-line-most : (step : Step) → step .round < 256 → step .node < 256 → step .smaller < 256 → step .larger < 256 → length (stepLine step) ≤ 16
 unfolding stepLine
 step-line-most step f g h i =
-    simp length-append (omega (arith, byte-field [] (step .round) f, byte-field space (step .node) g, byte-field space (step .smaller) h, byte-field space (step .larger) i))
+    simp length-append (omega (arith, byte-field [] (step .round) f, byte-field (ascii " ") (step .node) g, byte-field (ascii " ") (step .smaller) h, byte-field (ascii " ") (step .larger) i))
 
 pub last-line-most : (steps rounds left : ℕ) → steps < 2 ^ 64 → rounds < 2 ^ 64 → left < 2 ^ 64 → length (lastLine steps rounds left) ≤ 81
 unfolding lastLine
 last-line-most steps rounds left f g h =
-    simp length-append (omega (arith, wide-field stepsWord steps f, wide-field roundsWord rounds g, wide-field leftWord left h))
+    simp length-append (omega (arith, wide-field (ascii "steps ") steps f, wide-field (ascii " rounds ") rounds g, wide-field (ascii " left ") left h))
 
 pub refusal-line-most : (number : ℕ) → number < 2 ^ 64 → length (refusalLine number) ≤ 29
 unfolding refusalLine
-refusal-line-most number f = simp length-append (omega (arith, wide-field refusedWord number f))
+refusal-line-most number f = simp length-append (omega (arith, wide-field (ascii "refused ") number f))
