@@ -95,6 +95,13 @@ steps-held s nodes (x ∷ steps) z a =
     ap₂ (λ (t : Session) (b : List ℕ). heldAfter t b (map asMove steps)) (session-stepped s nodes x w) (nodes-stepped s nodes x w)
     ∙ steps-held (sessionWith s x) (nodesWith s nodes x) steps (sized-stepped s nodes x w) (a .1)
 
+-- the session and the buffer after them are again such as an operation accepts
+steps-sized : (s : Session) (nodes : List ℕ) (steps : List Step) → Sized s (length nodes) → CanMakeAll (familyOf (s .family)) (s .k) (s .live) steps
+    → Sized (withLive s (repairedNodes steps)) (length (nodesMade (s .len) nodes steps))
+unfolding nodesMade setLive
+steps-sized s nodes [] z a = z
+steps-sized s nodes (x ∷ steps) z a = steps-sized (sessionWith s x) (nodesWith s nodes x) steps (sized-stepped s nodes x (record { buffer = z; makes = a .0 })) (a .1)
+
 module _ (s : Session) (nodes : List ℕ) (e : firstMet (runChecks s nodes) ≡ 0) where
   -- what an accepted run says
   run-sized : Sized s (length nodes)
@@ -107,6 +114,10 @@ module _ (s : Session) (nodes : List ℕ) (e : firstMet (runChecks s nodes) ≡ 
   pub session-ran : ran s nodes .session ≡ withLive s (repairedNodes (planIn s))
   unfolding ran
   session-ran = rw e
+
+  pub ran-sized : length (s .live) ≡ 256 → Sized (ran s nodes .session) (length (nodesRan s nodes))
+  unfolding ran nodesRan
+  ran-sized size = rw e (steps-sized s nodes (planIn s) run-sized (plan-claim (familyOf (s .family)) (s .k) (run-known .range .blocks) (s .live) size .makes))
 
   nodes-ran : nodesRan s nodes ≡ nodesMade (s .len) nodes (planIn s)
   unfolding nodesRan

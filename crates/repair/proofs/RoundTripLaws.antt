@@ -154,7 +154,7 @@ module _ (bytes : List ℕ) (a : AcceptedBox bytes) where
   names-live = rw all-listed at (live-nodes-live (sessionIn bytes .live) (nodesIn bytes))
 
   -- some start gives that session
-  box-starts : noStart (sessionIn bytes) ≡ false
+  pub box-starts : noStart (sessionIn bytes) ≡ false
   box-starts =
       no-start-marks (sessionIn bytes) (parameters-in (familyIn bytes) (kIn bytes) (lengthIn bytes) (a .range))
       ∙ list-outside-none (nodesIn bytes) (namesIn bytes) few-nodes (a .nodes)
@@ -177,7 +177,7 @@ module _ (bytes nodes : List ℕ) (e : firstMet (readChecks bytes nodes) ≡ 0) 
   unfolding nodesRead
   read-is = rw e
 
-  read-size : length (nodesRead bytes nodes) ≡ nodesIn bytes * lengthIn bytes
+  pub read-size : length (nodesRead bytes nodes) ≡ nodesIn bytes * lengthIn bytes
   read-size = rw read-is (length-withBodies (lengthIn bytes) nodes (namesIn bytes) (bodiesIn bytes) names-in bodies-held ∙ accepted-read bytes nodes e .size)
 
   module _ (byte : (i : ℕ) → getD bytes i 0 < 256) (out : List ℕ) (room : length bytes ≤ length out) where

@@ -1,0 +1,4 @@
+pub mod TextLaws
+pub mod PutLaws
+pub mod StepLaws
+pub mod ListingLaws

@@ -1,0 +1,105 @@
+-- What is printed of an input, by its length and its checks, and the plan that is listed.
+-- Assumes nothing.
+use mathlib.Core.Path.{_≡_, refl, sym, ap, _∙_}
+use mathlib.Core.Bool.{false}
+use mathlib.Core.List.{List, [], _∷_, _++_}
+use Prim.Native.Nat.{ℕ, _*_, _≤_, _<_}
+use native.Mathlib.Decide.{ℕ-discrete, decLt}
+use native.Mathlib.Omega.{arith}
+use borrow.Author.Tests.{lt-ltb, le-ltb, eq-eqb, ne-eqb}
+use lib.ListN.{length, drop, length-append}
+use Rattle.families.specs.Families.{familyOf}
+use Rattle.families.proofs.Laws.{few}
+use Rattle.checks.specs.Checks.{firstMet}
+use Rattle.boxes.specs.Box.{boxChecks}
+use Rattle.boxes.proofs.Laws.{accepted-box}
+use Rattle.planning.specs.Made.{stepsIn}
+use Rattle.planning.proofs.CarryLaws.{steps-back}
+use Rattle.repair.specs.declared.Session.{Session}
+use Rattle.repair.specs.declared.Started.{Started}
+use Rattle.repair.specs.Session.{noStart}
+use Rattle.repair.specs.Boxed.{sessionIn, boxAnswer, checkedBox}
+use Rattle.repair.specs.Repairs.{planIn, repairsOf, planned, outPlanned}
+use Rattle.repair.proofs.StartLaws.{known}
+use Rattle.repair.proofs.BoxedLaws.{answer-refused}
+use Rattle.repair.proofs.RoundTripLaws.{box-starts}
+use Rattle.repair.proofs.RepairsLaws.{plan-few, plan-made}
+use Rattle.listing.specs.Text.{refusalLine, tooLongLine}
+use Rattle.listing.specs.Listing.{answerOf}
+
+-- ---- an input that is turned away
+
+module _ (input text : List ℕ) where
+  pub too-long : 65536 < length input → answerOf input text ≡ tooLongLine
+  unfolding answerOf
+  too-long h = rw (lt-ltb 65536 (length input) h)
+
+  module _ (h : length input ≤ 65536) where
+    pub refused : (checkedBox input .refusal ≡ 0 → ⊥) → answerOf input text ≡ refusalLine (checkedBox input .refusal)
+    unfolding answerOf
+    refused n = rw (le-ltb 65536 (length input) h, ne-eqb (checkedBox input .refusal) 0 n)
+
+    pub answered : checkedBox input .refusal ≡ 0 → answerOf input text ≡ text
+    unfolding answerOf
+    answered e = rw (le-ltb 65536 (length input) h, eq-eqb (checkedBox input .refusal) 0 e)
+
+  -- a refusal's line has something on it
+  some-line : length (answerOf input text) ≡ 0 → (checkedBox input .refusal ≡ 0 → ⊥) → length input ≤ 65536 → ⊥
+  unfolding refusalLine
+  some-line e n h = let z = ap length (refused h n) in omega (arith, simp length-append at z)
+
+module _ (input : List ℕ) where
+  -- an input that is not turned away
+  pub record Accepted : Type 0 where
+    pub fits : length input ≤ 65536
+    pub passes : checkedBox input .refusal ≡ 0
+
+  pub accepted-input : length (answerOf input []) ≡ 0 → Accepted
+  accepted-input e = go (decLt 65536 (length input)) (ℕ-discrete (checkedBox input .refusal) 0)
+    where
+      go : Dec (65536 < length input) → Dec (checkedBox input .refusal ≡ 0) → Accepted
+      go (yes l) d = absurd (omega (arith, ap length (too-long input [] l)))
+      go (no l) (yes p) = record { fits = omega arith; passes = p }
+      go (no l) (no n) = absurd (some-line input [] e n (omega arith))
+
+  -- what is printed of an input that is turned away does not hang on the text that is asked for
+  pub turned : (text : List ℕ) → (length (answerOf input []) ≡ 0 → ⊥) → answerOf input text ≡ answerOf input []
+  turned text h = go (decLt 65536 (length input)) (ℕ-discrete (checkedBox input .refusal) 0)
+    where
+      go : Dec (65536 < length input) → Dec (checkedBox input .refusal ≡ 0) → answerOf input text ≡ answerOf input []
+      go (yes l) d = too-long input text l ∙ sym (too-long input [] l)
+      go (no l) (yes p) = absurd (h (ap length (answered input [] (omega arith) p)))
+      go (no l) (no n) = refused input text (omega arith) n ∙ sym (refused input [] (omega arith) n)
+
+  module _ (a : Accepted) where
+    pub box-passes : firstMet (boxChecks input) ≡ 0
+    unfolding checkedBox
+    box-passes = go (firstMet (boxChecks input)) (ℕ-discrete (firstMet (boxChecks input)) 0) (a .passes)
+      where
+        go : (number : ℕ) → Dec (number ≡ 0) → boxAnswer input number .refusal ≡ 0 → number ≡ 0
+        go number (yes e) p = e
+        go number (no n) p = absurd (n (ap (λ (r : Started). r .refusal) (answer-refused input number n) ∙ p))
+
+    pub session-is : checkedBox input .session ≡ sessionIn input
+    unfolding checkedBox
+    session-is = rw box-passes
+
+    -- some start gives its session
+    pub box-known : noStart (checkedBox input .session) ≡ false
+    box-known = rw session-is (box-starts input (accepted-box input box-passes))
+
+-- ---- the plan of an accepted box's session
+
+module _ (s : Session) (starts : noStart s ≡ false) (size : length (s .live) ≡ 256) where
+  pub plan-short : length (planIn s) ≤ 255
+  plan-short =
+      let range = known s starts .range .blocks in
+      omega (arith, plan-few (familyOf (s .family)) (s .k) range (s .live) size, few (familyOf (s .family)) (s .k) range)
+
+  module _ (before : List ℕ) (room : length before ≡ 1020) where
+    -- room for 255 steps is enough, so that the plan is not refused
+    pub plan-is : planned s before ≡ repairsOf s s
+    plan-is = sym (plan-made s before starts (omega (arith, plan-short)) .answer-is)
+
+    pub steps-are : stepsIn (outPlanned s before) (length (planIn s)) ≡ planIn s
+    steps-are = rw (← plan-made s before starts (omega (arith, plan-short)) .out-is) (steps-back (planIn s) (drop (4 * length (planIn s)) before))

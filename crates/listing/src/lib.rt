@@ -1,0 +1,83 @@
+// The lister's text: a box's parameters and live count, the steps of its plan, and what the plan comes to.
+mod lines;
+mod text;
+
+use crate::lines::put_first_line;
+use crate::lines::put_last_line;
+use crate::lines::put_refusal_line;
+use crate::lines::put_step_lines;
+use crate::text::put;
+use repair::Session;
+ghost use mathlib.Core.Path.{_≡_};
+ghost use mathlib.Core.Bool.{false};
+ghost use mathlib.Core.List.{[], _++_};
+ghost use Prim.Native.Nat.{_≤_};
+ghost use lib.ListN.{length, drop};
+ghost use Rattle.repair.specs.Session.{noStart};
+ghost use Rattle.listing.specs.Text.{tooLongLine};
+ghost use Rattle.listing.specs.Listing.{answerOf, listingIn, listingOf};
+
+// The most bytes that a program reads, and that a box which it writes may have.
+pub const MOST_BYTES: usize = 65536;
+
+// `too long`, at the front of `out`; gives its length.
+pub fn put_too_long(out: &mut [u8]) -> usize
+    requires { ⌜ 9 ≤ length (now out) ⌝ }
+    ensures { λ r. ⌜ r ≡ 9 ⌝ }
+    ensures { λ _. ⌜ now (out .exit) ≡ tooLongLine ++ drop 9 (now (out .entry)) ⌝ }
+{
+    put(b"too long\n", out, 0)
+}
+
+// What is printed of an input that is turned away, at the front of `out`; gives its length, and 0 where the input is accepted.
+pub fn turned_away(input: &[u8], out: &mut [u8]) -> usize
+    requires { ⌜ 29 ≤ length (now out) ⌝ }
+    ensures { λ r. ⌜ (r ≡ length (answerOf (now (input .entry)) [])) × (r ≤ 29) ⌝ }
+    ensures { λ _. ⌜ now (out .exit) ≡ answerOf (now (input .entry)) [] ++ drop (length (answerOf (now (input .entry)) [])) (now (out .entry)) ⌝ }
+{
+    if MOST_BYTES < input.len() {
+        return put_too_long(out);
+    }
+    let checked = Session::check(input);
+    let number = checked.refusal;
+    if number == 0 {
+        return 0;
+    }
+    put_refusal_line(number as usize, out)
+}
+
+// Room for a step for each of 255 nodes, four bytes a step.
+fn no_steps() -> [u8; 1020] {
+    [0u8; 1020]
+}
+
+// The listing of an accepted box's session, at the front of `out`; gives its length.
+fn put_listing(session: Session, out: &mut [u8]) -> usize
+    requires { ⌜ noStart session ≡ false ⌝ }
+    requires { ⌜ length (now out) ≡ 8192 ⌝ }
+    ensures { λ r. ⌜ (r ≡ length (listingIn session)) × (r ≤ 8192) ⌝ }
+    ensures { λ _. ⌜ now (out .exit) ≡ listingIn session ++ drop (length (listingIn session)) (now (out .entry)) ⌝ }
+{
+    let n = families::node_count_of(session.family, session.k);
+    let live = session.live;
+    let count = lists::count_live(&live, n);
+    let first = put_first_line(session.family, session.k, session.len, count, out);
+    let mut steps = no_steps();
+    let made = session.plan(&mut steps);
+    let last = put_step_lines(&steps, made.steps, out, first);
+    put_last_line(made.steps, made.rounds, made.left, out, last)
+}
+
+// What the lister prints of its input, at the front of `out`; gives its length. `out` beyond it is not written.
+pub fn list(input: &[u8], out: &mut [u8; 8192]) -> usize
+    ensures { λ r. ⌜ (r ≡ length (listingOf (now (input .entry)))) × (r ≤ 8192) ⌝ }
+    ensures { λ _. ⌜ now (out .exit) ≡ listingOf (now (input .entry)) ++ drop (length (listingOf (now (input .entry)))) (now (out .entry)) ⌝ }
+{
+    let said = turned_away(input, out);
+    if said != 0 {
+        return said;
+    }
+    let checked = Session::check(input);
+    let session = checked.session;
+    put_listing(session, out)
+}
