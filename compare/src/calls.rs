@@ -72,12 +72,8 @@ pub fn write(session: Session, nodes: &[u8], list: &[u8], out_len: usize) -> u8 
     };
     for write in [library::write, raw::write] {
         let [nodes, list] = [&lent_nodes, &lent_list].map(Guarded::bytes);
-        assert_eq!(
-            write(session, nodes, list, out.bytes_mut()),
-            wanted,
-            "{}",
-            place()
-        );
+        let got = write(session, nodes, list, out.bytes_mut());
+        assert_eq!(got, wanted, "{}", place());
         let as_wanted = written_as(&out, &expected);
         assert!(as_wanted, "{}: the box differs", place());
     }
