@@ -71,10 +71,10 @@ module _ (input : List ℕ) where
       go (no l) (yes p) = absurd (h (ap length (answered input [] (omega arith) p)))
       go (no l) (no n) = refused input text (omega arith) n ∙ sym (refused input [] (omega arith) n)
 
-  module _ (a : Accepted) where
+  module _ (passes : checkedBox input .refusal ≡ 0) where
     pub box-passes : firstMet (boxChecks input) ≡ 0
     unfolding checkedBox
-    box-passes = go (firstMet (boxChecks input)) (ℕ-discrete (firstMet (boxChecks input)) 0) (a .passes)
+    box-passes = go (firstMet (boxChecks input)) (ℕ-discrete (firstMet (boxChecks input)) 0) passes
       where
         go : (number : ℕ) → Dec (number ≡ 0) → boxAnswer input number .refusal ≡ 0 → number ≡ 0
         go number (yes e) p = e

@@ -26,7 +26,7 @@ put-listing-requires : tie.Need-put-listing-requires
 put-listing-requires c κs =
     let input = c .before .before .before .before .before .before .before .args .input .now in
     let e = ap (λ (r : Started). r .session) (c .before .before .check .ensures) in
-    (rw e (box-known input (accepted (c .before .before .before))), search needs)
+    (rw e (box-known input (accepted (c .before .before .before) .passes)), search needs)
 
 returns-2 : tie.Need-returns-2
 unfolding listingOf

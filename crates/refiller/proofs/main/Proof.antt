@@ -1,0 +1,31 @@
+-- `refiller::main` meets its contract: what is written stands at the front of the buffer, so that it is no longer than the buffer.
+-- Assumes nothing.
+use mathlib.Core.Path.{sym, ap}
+use native.Mathlib.Omega.{arith}
+use lib.ListN.{length, length-append}
+use lib.Seq.{length-take-le}
+use borrow.Author.Needs.{needs}
+use Rattle.refiller.proofs.main.Statement.{statement}
+use Rattle.refiller.proofs.main.Tie as tie
+
+array-share-prefix-out : tie.Need-array-share-prefix-out
+array-share-prefix-out c = omega (arith, c .refill .ensures .0 .0, simp length-append at (ap length (c .refill .ensures .1)))
+
+slice-aggregate-write-all : tie.Need-slice-aggregate-write-all
+slice-aggregate-write-all c = sym (length-take-le _ (c .before .refill .last .1 .0) (array-share-prefix-out (c .before)))
+
+pub main-spec : {M : Type 1} → statement M
+main-spec =
+    tie.close
+    (tie.spec
+    (λ c κs. search needs)
+    (λ c. search needs)
+    (λ c κs. search needs)
+    (λ c κs. search needs)
+    (λ c. search needs)
+    (λ c. search needs)
+    (λ c κs. search needs)
+    array-share-prefix-out
+    slice-aggregate-write-all
+    (λ c κs. search needs)
+    (λ c. search needs))

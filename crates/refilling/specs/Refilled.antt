@@ -1,0 +1,31 @@
+-- What the refiller writes (document 01, "Two programs"): it runs the plan and writes the box of all live nodes.
+use Prim.Native.Nat.{ℕ, _*_}
+use mathlib.Core.Bool.{cond}
+use mathlib.Core.List.{List, []}
+use lib.Dec.{ltb}
+use lib.ListN.{replicate}
+use Rattle.boxes.specs.Box.{lengthIn, nodesIn, boxLength}
+use Rattle.boxes.specs.Bodies.{boxOf}
+use Rattle.repair.specs.declared.Session.{Session}
+use Rattle.repair.specs.Boxed.{checkedBox, nodesRead, listed}
+use Rattle.repair.specs.Repairs.{ran, nodesRan}
+use Rattle.listing.specs.Text.{tooLongLine}
+use Rattle.listing.specs.Listing.{mostBytes, answerOf}
+
+-- the box of all live nodes of a session
+abbrev pub liveBox : Session → List ℕ → List ℕ
+liveBox s nodes = boxOf (s .family) (s .k) (s .len) (listed s []) nodes
+
+-- the plan of a session run on a nodes buffer, and the box of all live nodes then
+unfoldable pub boxAfterRun : Session → List ℕ → List ℕ
+boxAfterRun s nodes = liveBox (ran s nodes .session) (nodesRan s nodes)
+
+-- the box read into a nodes buffer, in which the places of missing nodes are zeros
+unfoldable pub nodesHeld : List ℕ → List ℕ
+nodesHeld input = nodesRead input (replicate (nodesIn input * lengthIn input) 0)
+
+-- what the refiller writes: `too long` where the box of all n nodes would be above 65,536 bytes
+unfoldable pub refilledOf : List ℕ → List ℕ
+refilledOf input =
+    answerOf input
+    (cond (ltb mostBytes (boxLength (nodesIn input) (lengthIn input))) tooLongLine (boxAfterRun (checkedBox input .session) (nodesHeld input)))
