@@ -1,12 +1,11 @@
 -- What the programs print of an input that is turned away, and what the lister prints (document 01, "Two programs").
 use Prim.Native.Nat.{ℕ}
 use mathlib.Core.Bool.{cond}
-use mathlib.Core.List.{List, [], _++_}
+use mathlib.Core.List.{List, _++_}
 use lib.Dec.{eqb, ltb}
 use lib.ListN.{length}
 use Rattle.lists.specs.Lists.{liveNodes}
 use Rattle.repair.specs.declared.Session.{Session}
-use Rattle.repair.specs.declared.Repairs.{Repairs}
 use Rattle.repair.specs.Session.{nodesOf}
 use Rattle.repair.specs.Boxed.{checkedBox}
 use Rattle.repair.specs.Repairs.{planIn, repairsOf}

@@ -1,30 +1,26 @@
 -- An accepted box, read, run and written: no call on the way is refused, and there is room for what is written.
 -- Assumes nothing.
 use mathlib.Core.Path.{_≡_, refl, sym, ap, _∙_}
-use mathlib.Core.Bool.{Bool, true, false, cond}
+use mathlib.Core.Bool.{false}
 use mathlib.Core.List.{List, [], _∷_, _++_}
 use Prim.Native.Nat.{ℕ, zero, suc, _+_, _*_, _≤_, _<_}
 use native.Mathlib.Nat.{mul-le-mul, mul-le-mul-right}
 use native.Mathlib.Omega.{arith}
 use borrow.Author.Tests.{lt-ltb, le-ltb, eq-eqb}
-use lib.Dec.{ltb}
 use lib.ListN.{length, take, drop, replicate, length-replicate}
-use lib.Seq.{length-take-le}
 use Rattle.families.specs.Families.{familyOf}
 use Rattle.families.proofs.Laws.{few}
 use Rattle.checks.specs.Checks.{firstMet}
 use Rattle.lists.specs.Lists.{noneLive, someOutside, rises, someMissing, liveNodes}
 use Rattle.lists.proofs.Laws.{length-setLive, live-nodes-few, live-nodes-inside}
 use Rattle.boxes.specs.Box.{familyIn, kIn, lengthIn, namesIn, nodesIn, boxLength, boxChecks}
-use Rattle.boxes.specs.Bodies.{boxOf}
-use Rattle.boxes.specs.Places.{ListIn}
 use Rattle.boxes.proofs.Answers.{box-none}
 use Rattle.boxes.proofs.Laws.{AcceptedBox, accepted-box, list-in, length-boxOf}
 use Rattle.repair.specs.declared.Session.{Session}
 use Rattle.repair.specs.declared.Started.{Started}
 use Rattle.repair.specs.declared.Written.{Written}
-use Rattle.repair.specs.Session.{nodesOf, nodesChecks}
-use Rattle.repair.specs.Boxed.{sessionIn, checkedBox, readChecks, readBox, nodesRead, listed, written, outWritten}
+use Rattle.repair.specs.Session.{nodesOf}
+use Rattle.repair.specs.Boxed.{checkedBox, readChecks, readBox, nodesRead, written, outWritten}
 use Rattle.repair.specs.Repairs.{runChecks, ran, nodesRan}
 use Rattle.repair.proofs.StartLaws.{Sized, nodes-0}
 use Rattle.repair.proofs.BoxedLaws.{read-done, write-done, earlier, list-0}

@@ -2,7 +2,7 @@
 use repair::Session;
 ghost use mathlib.Core.Path.{_≡_};
 ghost use mathlib.Core.List.{_++_};
-ghost use Prim.Native.Nat.{ℕ, _*_, _≤_};
+ghost use Prim.Native.Nat.{_*_, _≤_};
 ghost use lib.ListN.{length, drop, replicate};
 ghost use Rattle.boxes.specs.Box.{lengthIn, nodesIn, boxLength};
 ghost use Rattle.repair.specs.Boxed.{checkedBox, nodesRead};

@@ -1,10 +1,8 @@
 -- `listing::lines::put_refusal_line` meets its contract: its words and numbers are put one after the other.
 -- Assumes nothing.
 use mathlib.Core.Path.{refl}
-use mathlib.Core.List.{[], _++_, append-assoc}
 use native.Mathlib.Omega.{arith}
 use borrow.Author.Needs.{needs}
-use lib.ListN.{length-append}
 use Rattle.listing.specs.Text.{ascii, field, newline, refusalLine}
 use Rattle.listing.proofs.TextLaws.{wide-field, refusal-line-most}
 use Rattle.listing.proofs.PutLaws.{Laid, laid, then, room-for, front}

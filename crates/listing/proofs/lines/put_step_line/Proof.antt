@@ -1,6 +1,5 @@
 -- `listing::lines::put_step_line` meets its contract: its words and numbers are put one after the other.
 -- Assumes nothing.
-use mathlib.Core.Path.{refl}
 use mathlib.Core.List.{[], _++_, append-assoc}
 use native.Mathlib.Omega.{arith}
 use borrow.Author.Needs.{needs}
