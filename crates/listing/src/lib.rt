@@ -46,11 +46,6 @@ pub fn turned_away(input: &[u8], out: &mut [u8]) -> usize
     put_refusal_line(number as usize, out)
 }
 
-// Room for a step for each of 255 nodes, four bytes a step.
-fn no_steps() -> [u8; 1020] {
-    [0u8; 1020]
-}
-
 // The listing of an accepted box's session, at the front of `out`; gives its length.
 fn put_listing(session: Session, out: &mut [u8]) -> usize
     requires { ⌜ noStart session ≡ false ⌝ }
@@ -62,7 +57,7 @@ fn put_listing(session: Session, out: &mut [u8]) -> usize
     let live = session.live;
     let count = lists::count_live(&live, n);
     let first = put_first_line(session.family, session.k, session.len, count, out);
-    let mut steps = no_steps();
+    let mut steps = repair::plan_room();
     let made = session.plan(&mut steps);
     let last = put_step_lines(&steps, made.steps, out, first);
     put_last_line(made.steps, made.rounds, made.left, out, last)

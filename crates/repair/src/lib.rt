@@ -1,10 +1,12 @@
 // Sessions: which nodes of an object are live, and what is done with them.
 mod boxed;
+mod by_pairs;
 mod out;
-mod plan;
-mod run;
 mod start;
 mod step;
+
+ghost use mathlib.Core.Path.{_≡_};
+ghost use lib.ListN.{replicate};
 
 // A family, k and L, and a mark for each node number, live or missing. It is plain data: whatever a caller puts into one is
 // refused by the first check of an operation where no start gives it.
@@ -48,4 +50,11 @@ pub struct Repairs {
     pub rounds: usize,
     pub left: usize,
     pub session: Session,
+}
+
+// Room for any plan: a step for each of 255 nodes, four bytes a step.
+pub fn plan_room() -> [u8; 1020]
+    ensures { λ r. ⌜ r ≡ replicate 1020 0 ⌝ }
+{
+    [0u8; 1020]
 }

@@ -37,7 +37,7 @@ short c =
     omega (arith, e, plan-short (c .before .before .before .before .before .before .before .before .before .before .before .before .args .session) (c .before .before .before .before .before .before .before .before .before .before .before .before .pre .0) (search needs))
 
 steps : (c : tie.After-plan) → stepsIn (c .plan .last .1 .0) (c .plan .result .steps) ≡ planIn (c .before .before .before .before .before .before .before .before .before .before .before .before .args .session)
-steps c = rw (c .plan .ensures .1, made c) (steps-are (c .before .before .before .before .before .before .before .before .before .before .before .before .args .session) (c .before .before .before .before .before .before .before .before .before .before .before .before .pre .0) (search needs) (c .before .before .no-steps .result) (search needs))
+steps c = rw (c .plan .ensures .1, made c) (steps-are (c .before .before .before .before .before .before .before .before .before .before .before .before .args .session) (c .before .before .before .before .before .before .before .before .before .before .before .before .pre .0) (search needs) (c .before .before .plan-room .result) (search needs))
 
 lined : (c : tie.After-put-step-lines) → Laid (c .before .before .before .before .before .before .before .before .before .before .before .before .before .before .before .before .args .out .now) 0
     (firstLine (c .before .before .before .before .before .before .before .before .before .before .before .before .before .before .before .before .args .session .family) (c .before .before .before .before .before .before .before .before .before .before .before .before .before .before .before .before .args .session .k) (c .before .before .before .before .before .before .before .before .before .before .before .before .before .before .before .before .args .session .len) (c .before .before .before .before .before .before .before .before .before .before .before .count-live .result) ++ stepLines (stepsIn (c .before .before .before .before .plan .last .1 .0) (c .before .before .before .before .plan .result .steps)))
@@ -55,7 +55,7 @@ count-live-requires c κs =
 put-step-lines-requires : tie.Need-put-step-lines-requires
 put-step-lines-requires c κs =
     let p = c .before .before .before .plan in
-    let room : length (c .before .before .before .before .before .no-steps .result) ≡ 1020 = search needs in
+    let room : length (c .before .before .before .before .before .plan-room .result) ≡ 1020 = search needs in
     let w = first (c .before .before .before .before .before .before .before .before) in (
       omega (arith, short (c .before .before .before), p .kept .1 .0, room),
       omega (arith, short (c .before .before .before), c .before .before .before .before .before .before .before .before .put-first-line .ensures .0 .1, c .before .before .before .before .before .before .before .before .before .before .before .before .before .before .before .pre .1, laid-size w (omega (arith, c .before .before .before .before .before .before .before .before .put-first-line .ensures .0 .1, c .before .before .before .before .before .before .before .before .before .before .before .before .before .before .before .pre .1))),

@@ -30,12 +30,12 @@ returns-2 c =
 
 returns-3 : tie.Need-returns-3
 returns-3 c =
-    let s = c .before .before .before .before .before .before .before .before .before .before .before .before .before .before .before .args .self in
-    let d = c .before .before .before .before .before .before .before .before .before .draw-up in
+    let s = c .before .before .before .before .before .before .before .before .before .before .before .before .before .before .before .before .args .self in
+    let d = c .before .before .before .before .before .before .before .before .before .before .draw-up in
     let m = made-steps s (d .result) (d .ensures .0 .0) in
-    let r = plan-made s (c .before .before .before .before .before .before .before .before .before .before .before .before .before .before .before .args .out .now) (starts (c .before .before .before .before .before .before .before .before .before .before .before .before)) (omega (arith, m)) in (
-      made-answer s (d .result) (d .ensures .0 .0) s ∙ r .answer-is,
-      rw (c .before .before .copy-block .ensures, sub-zero (4 * d .result .steps), made-bytes s (d .result) (d .ensures .0 .0) _ _ (d .ensures .1), m) (r .out-is),
+    let r = plan-made s (c .before .before .before .before .before .before .before .before .before .before .before .before .before .before .before .before .args .out .now) (starts (c .before .before .before .before .before .before .before .before .before .before .before .before .before)) (omega (arith, m)) in (
+      c .counted .ensures ∙ made-answer s (d .result) (d .ensures .0 .0) s ∙ r .answer-is,
+      rw (c .before .before .before .copy-block .ensures, sub-zero (4 * d .result .steps), made-bytes s (d .result) (d .ensures .0 .0) _ _ (d .ensures .1), m) (r .out-is),
     )
 
 pub plan-spec : {M : Type 1} → statement M
@@ -58,5 +58,6 @@ plan-spec =
     (λ c. search needs)
     (λ c. search needs)
     (λ c κs. search needs)
+    (λ c. search needs)
     (λ c. search needs)
     returns-3)

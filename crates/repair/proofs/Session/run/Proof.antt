@@ -38,18 +38,18 @@ carry-out-requires c κs =
     let d = c .before .before .before .draw-up in
     let b = buffer (c .before .before .before .before .before .before) in
     let size : length (s .live) ≡ 256 = search needs in
-    let room : length (c .before .before .before .before .before .no-steps .result) ≡ 1020 = search needs in (
+    let room : length (c .before .before .before .before .before .plan-room .result) ≡ 1020 = search needs in (
       omega (arith, d .ensures .0 .1, d .kept .1 .0, room),
       made-in s (d .result) (d .ensures .0 .0) _ _ (d .ensures .1) (known s (b .starts) .range .blocks) size (c .before .before .before .before .before .before .before .before .before .args .nodes .now) (b .size),
     )
 
 returns-2 : tie.Need-returns-2
 returns-2 c =
-    let s = c .before .before .before .before .before .before .before .before .before .before .before .before .before .args .self in
-    let d = c .before .before .before .before .before .before .before .draw-up in
-    let r = run-made s (c .before .before .before .before .before .before .before .before .before .before .before .before .before .args .nodes .now) (passed (c .before .before .before .before .before .before .before .before .before .before)) in (
-      made-ran s (d .result) (d .ensures .0 .0) ∙ r .answer-is,
-      c .before .before .before .carry-out .ensures ∙ ap (λ (steps : List Step). nodesMade (s .len) (c .before .before .before .before .before .before .before .before .before .before .before .before .before .args .nodes .now) steps) (made-back s (d .result) (d .ensures .0 .0) _ _ (d .ensures .1)) ∙ r .nodes-are,
+    let s = c .before .before .before .before .before .before .before .before .before .before .before .before .before .before .args .self in
+    let d = c .before .before .before .before .before .before .before .before .draw-up in
+    let r = run-made s (c .before .before .before .before .before .before .before .before .before .before .before .before .before .before .args .nodes .now) (passed (c .before .before .before .before .before .before .before .before .before .before .before)) in (
+      c .counted .ensures ∙ made-ran s (d .result) (d .ensures .0 .0) ∙ r .answer-is,
+      c .before .before .before .before .carry-out .ensures ∙ ap (λ (steps : List Step). nodesMade (s .len) (c .before .before .before .before .before .before .before .before .before .before .before .before .before .before .args .nodes .now) steps) (made-back s (d .result) (d .ensures .0 .0) _ _ (d .ensures .1)) ∙ r .nodes-are,
     )
 
 pub run-spec : {M : Type 1} → statement M
@@ -64,5 +64,6 @@ run-spec =
     draw-up-requires
     (λ c. search needs)
     carry-out-requires
+    (λ c. search needs)
     (λ c. search needs)
     returns-2)

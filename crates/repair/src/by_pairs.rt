@@ -1,6 +1,7 @@
-// Plan: the repairs of a session, listed.
+// Plan and run: the repairs of a session, listed and carried out.
 use crate::Repairs;
 use crate::Session;
+use crate::plan_room;
 use planning::Planned;
 ghost use mathlib.Core.Path.{_≡_};
 ghost use mathlib.Core.Bool.{false};
@@ -11,16 +12,24 @@ ghost use Rattle.families.specs.Families.{familyOf};
 ghost use Rattle.planning.specs.Plan.{stepBytes};
 ghost use Rattle.planning.specs.Planned.{plannedOf};
 ghost use Rattle.repair.specs.Session.{noStart};
-ghost use Rattle.repair.specs.Repairs.{planIn, refusedRepairs, planned, outPlanned};
+ghost use Rattle.repair.specs.Repairs.{planIn, refusedRepairs, planned, outPlanned, ran, nodesRan};
 
-// Room for a step for each of 255 nodes, four bytes a step.
-pub fn no_steps() -> [u8; 1020] {
-    [0u8; 1020]
+// An accepted plan or run: what the plan comes to, with the session that is handed back.
+fn counted(made: Planned, session: Session) -> Repairs
+    ensures { λ r. ⌜ r ≡ record { refusal = 0; steps = made .steps; rounds = made .rounds; left = made .left; session = session } ⌝ }
+{
+    Repairs {
+        refusal: 0,
+        steps: made.steps,
+        rounds: made.rounds,
+        left: made.left,
+        session: session,
+    }
 }
 
 impl Session {
     // A refused plan or run.
-    pub fn no_repairs(self, number: u8) -> Repairs
+    fn no_repairs(self, number: u8) -> Repairs
         ensures { λ r. ⌜ r ≡ refusedRepairs self number ⌝ }
     {
         Repairs {
@@ -33,7 +42,7 @@ impl Session {
     }
 
     // The plan, made aside in a list with room for every step.
-    pub fn draw_up(self, steps: &mut [u8]) -> Planned
+    fn draw_up(self, steps: &mut [u8]) -> Planned
         requires { ⌜ (noStart self ≡ false) × (length (now steps) ≡ 1020) ⌝ }
         ensures { λ r. ⌜ (r ≡ plannedOf (familyOf (self .family)) (self .k) (self .live)) × (r .steps ≤ 255) ⌝ }
         ensures { λ _. ⌜ now (steps .exit) ≡ stepBytes (planIn self) ++ drop (4 * length (planIn self)) (now (steps .entry)) ⌝ }
@@ -51,19 +60,35 @@ impl Session {
         if self.has_no_start() {
             return self.no_repairs(13);
         }
-        let mut steps = no_steps();
+        let mut steps = plan_room();
         let made = self.draw_up(&mut steps);
         let needed = 4 * made.steps;
         if out.len() < needed {
             return self.no_repairs(6);
         }
         blocks::copy_block(&mut out[0..needed], &steps[0..needed]);
-        Repairs {
-            refusal: 0,
-            steps: made.steps,
-            rounds: made.rounds,
-            left: made.left,
-            session: self,
+        counted(made, self)
+    }
+
+    // The plan carried out on the nodes buffer; the repaired nodes become live.
+    pub fn run(self, nodes: &mut [u8]) -> Repairs
+        ensures { λ r. ⌜ r ≡ ran self (now (nodes .entry)) ⌝ }
+        ensures { λ _. ⌜ now (nodes .exit) ≡ nodesRan self (now (nodes .entry)) ⌝ }
+    {
+        let bad = self.nodes_refusal(nodes.len());
+        if bad != 0 {
+            return self.no_repairs(bad);
         }
+        let mut steps = plan_room();
+        let made = self.draw_up(&mut steps);
+        planning::carry::carry_out(self.len, &steps, made.steps, nodes);
+        let repaired = made.live;
+        let next = Session {
+            family: self.family,
+            k: self.k,
+            len: self.len,
+            live: repaired,
+        };
+        counted(made, next)
     }
 }
