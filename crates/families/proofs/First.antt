@@ -47,3 +47,14 @@ module _ (test : ℕ → Bool) where
       go false e later =
           let f = later (rw (skip j m e) at h) in
           rw (skip j m e) (record { from = omega (arith, f .from); below = omega (arith, f .below); passes = f .passes })
+
+  -- where a number passes, one is found, and none after it
+  pub first-least : (j m i : ℕ) → 1 ≤ j → j ≤ i → i < j + m → test i ≡ true → (1 ≤ firstFrom test j m) × (firstFrom test j m ≤ i)
+  first-least j zero i p l h t = absurd (omega arith)
+  first-least j (suc m) i p l h t = go (test j) refl (λ g. first-least (suc j) m i (omega arith) g (omega arith) t)
+    where
+      go : (b : Bool) → test j ≡ b → (suc j ≤ i → (1 ≤ firstFrom test (suc j) m) × (firstFrom test (suc j) m ≤ i)) → (1 ≤ firstFrom test j (suc m)) × (firstFrom test j (suc m) ≤ i)
+      go true e later = rw (pass j m e) (p, l)
+      go false e later =
+          let ne : j ≡ i → ⊥ = λ q. false≢true (sym e ∙ ap test q ∙ t) in
+          rw (skip j m e) (later (omega arith))

@@ -116,6 +116,11 @@ unfolding areRelated
 related-turn f k a b c h =
     eq-eqb _ 0 (xor-comm (bitXor (columnOf f k b) (columnOf f k c)) (columnOf f k a) ∙ sym (xor-assoc (columnOf f k a) (columnOf f k b) (columnOf f k c)) ∙ eqb-true _ 0 h)
 
+-- the relation, with the first two exchanged
+pub related-swap : (f : Family) (k a b c : ℕ) → areRelated f k a b c ≡ true → areRelated f k b a c ≡ true
+unfolding areRelated
+related-swap f k a b c h = rw (xor-comm (columnOf f k b) (columnOf f k a)) h
+
 -- ---- the two earlier nodes whose XOR a node is, where it holds more than one data block
 
 -- the lowest bit of a column

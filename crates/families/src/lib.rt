@@ -4,7 +4,8 @@ mod pairs;
 mod tetrahedron;
 
 ghost use mathlib.Core.Path.{_≡_};
-ghost use Prim.Native.Nat.{ℕ, _≤_};
+ghost use Prim.Native.Nat.{ℕ, _^_, _≤_, _<_};
+ghost use lib.Bits.{bitXor};
 ghost use Rattle.families.specs.Families.{familyOf, leastK, mostK, KInRange, IsNode, nodeCount, columnOf, nodeOf, areRelated, columnTable};
 ghost use Rattle.families.specs.declared.Family.the-variants.{Simplex};
 
@@ -101,6 +102,19 @@ fn simplex_node(k: usize, column: usize) -> usize
         return 0;
     }
     column
+}
+
+// The node related to two nodes, by their columns; 0 where there is none. The XOR of columns is below 2^k, so that it need not be
+// held to a range.
+pub fn third_node(family: Family, k: usize, x: usize, y: usize) -> usize
+    requires { ⌜ KInRange family k × (x < 2 ^ k) × (y < 2 ^ k) ⌝ }
+    ensures { λ r. ⌜ r ≡ nodeOf family k (bitXor x y) ⌝ }
+{
+    match family {
+        Family::Simplex => x ^ y,
+        Family::WeightTwo => pairs::node_below(k, x ^ y),
+        Family::Tetrahedron => tetrahedron::node_of(x ^ y),
+    }
 }
 
 // Whether three nodes are related.

@@ -57,14 +57,12 @@ fn pair_node(k: usize, i: usize, j: usize) -> usize
     k + (i - 1) * (2 * k - i) / 2 + (j - i)
 }
 
-// The node with this column: its lowest bit and what is left are each a data block's, or the column is no node's.
-pub fn node_of(k: usize, column: usize) -> usize
-    requires { ⌜ KInRange WeightTwo k ⌝ }
+// The node with this column, which is below 2^k: its lowest bit and what is left are each a data block's, or the column is no
+// node's.
+pub fn node_below(k: usize, column: usize) -> usize
+    requires { ⌜ KInRange WeightTwo k × (column < 2 ^ k) ⌝ }
     ensures { λ r. ⌜ r ≡ nodeOf WeightTwo k column ⌝ }
 {
-    if base::power(k) <= column {
-        return 0;
-    }
     if column == 0 {
         return 0;
     }
@@ -78,6 +76,17 @@ pub fn node_of(k: usize, column: usize) -> usize
         return 0;
     }
     pair_node(k, low + 1, high + 1)
+}
+
+// The node with this column; 0 where there is none.
+pub fn node_of(k: usize, column: usize) -> usize
+    requires { ⌜ KInRange WeightTwo k ⌝ }
+    ensures { λ r. ⌜ r ≡ nodeOf WeightTwo k column ⌝ }
+{
+    if base::power(k) <= column {
+        return 0;
+    }
+    node_below(k, column)
 }
 
 // The pair after this one: one to the right in its row, or the first of the next row.

@@ -18,13 +18,13 @@ use Rattle.base.proofs.Tests.{and-left, and-right, and-both, not-both, is-false
 use Rattle.base.proofs.Xor.{xor-third, xor-third-of}
 use Rattle.families.specs.declared.Family.{Family}
 use Rattle.families.specs.Families.{KInRange, IsNode, nodeCount, columnOf, nodeOf, areRelated, firstFrom, columnTable}
-use Rattle.families.proofs.First.{first-of, first-none, found}
-use Rattle.families.proofs.Laws.{few, node-is, node-of, related-turn}
+use Rattle.families.proofs.First.{first-of, first-none, first-least, found}
+use Rattle.families.proofs.Laws.{few, node-is, node-of, related-differ, related-turn, related-swap}
 use Rattle.families.proofs.TableLaws.{table-at}
 use Rattle.lists.specs.Lists.{isLive, liveFrom, liveNodes}
 use Rattle.planning.specs.Pairs.{largerNode, smallerNode}
 use Rattle.planning.specs.Plan.{isRepaired}
-use Rattle.planning.specs.Search.{nextNode}
+use Rattle.planning.specs.Search.{livePartner, nextNode}
 
 -- ---- the larger node
 
@@ -66,13 +66,6 @@ module _ (f : Family) (k : ℕ) (r : KInRange f k) (marks : List Bool) (j a : �
   only h b l u t =
       (related-partner b (record { first = omega arith; last = omega arith }) (and-right (isLive marks b) (areRelated f k a b j) t), and-left (isLive marks b) (areRelated f k a b j) t)
 
-  pub larger-none : a ≤ nodeCount f k → (a < partner → isLive marks partner ≡ true → ⊥) → largerNode f k marks j a ≡ 0
-  unfolding largerNode test
-  larger-none h none =
-      first-none test (suc a) (nodeCount f k - a) (λ b l u. is-false (test b) (λ t.
-      let o = only h b l u t in
-      none (omega (arith, o .0)) (ap (isLive marks) (o .0) ∙ o .1)))
-
   pub larger-is : IsNode f k a → a < partner → isLive marks partner ≡ true → largerNode f k marks j a ≡ partner
   unfolding largerNode test
   larger-is n l v =
@@ -102,6 +95,32 @@ module _ (f : Family) (k : ℕ) (r : KInRange f k) (marks : List Bool) (j a : �
         live = and-left (isLive marks b) (areRelated f k a b j) (g .passes);
         related = and-right (isLive marks b) (areRelated f k a b j) (g .passes);
       }
+
+  -- the partner, found in the table and asked whether it is live
+  pub live-is : {b : ℕ} → b ≡ partner → isLive marks b ≡ true → b ≡ livePartner f k marks j a
+  unfolding livePartner
+  live-is e v = rw (← e, v)
+
+  pub live-none : {b : ℕ} → b ≡ partner → isLive marks b ≡ false → 0 ≡ livePartner f k marks j a
+  unfolding livePartner
+  live-none e v = rw (← e, v)
+
+  -- what a live partner is, where there is one
+  pub record Partner : Type 0 where
+    pub is : livePartner f k marks j a ≡ partner
+    pub live : isLive marks partner ≡ true
+
+  pub live-partner : 1 ≤ livePartner f k marks j a → Partner
+  unfolding livePartner
+  live-partner h = go (isLive marks partner) refl h
+    where
+      go : (b : Bool) → isLive marks partner ≡ b → 1 ≤ cond b partner 0 → Partner
+      go true e h = record { is = sym (live-is refl e); live = e }
+      go false e h = absurd (omega arith)
+
+  -- a live node related to a and j is the live partner
+  pub partner-is : (b : ℕ) → IsNode f k b → isLive marks b ≡ true → areRelated f k a b j ≡ true → b ≡ livePartner f k marks j a
+  partner-is b nb v h = live-is (sym (related-partner b nb h)) v
 
 -- ---- the first of a list that passes a test
 
@@ -136,9 +155,68 @@ first-live test marks j (suc m) = go (isLive marks j) (first-live test marks (su
 abbrev pub hasLarger : Family → ℕ → List Bool → ℕ → ℕ → Bool
 hasLarger f k marks j a = ltb 0 (largerNode f k marks j a)
 
-pub smaller-first : (f : Family) (k : ℕ) (marks : List Bool) (j : ℕ) → smallerNode f k marks j ≡ firstIn (hasLarger f k marks j) (liveNodes marks (nodeCount f k))
-unfolding smallerNode
-smaller-first f k marks j = first-live (hasLarger f k marks j) marks 1 (nodeCount f k)
+-- a has a live partner with which it repairs j
+abbrev pub hasPartner : Family → ℕ → List Bool → ℕ → ℕ → Bool
+hasPartner f k marks j a = ltb 0 (livePartner f k marks j a)
+
+module _ (f : Family) (k : ℕ) (r : KInRange f k) (marks : List Bool) (j : ℕ) (nj : IsNode f k j) where
+  byLarger : ℕ → Bool
+  byLarger a = isLive marks a && hasLarger f k marks j a
+
+  byPartner : ℕ → Bool
+  byPartner a = isLive marks a && hasPartner f k marks j a
+
+  paired : (a b : ℕ) → IsNode f k a → IsNode f k b → isLive marks a ≡ true → isLive marks b ≡ true → areRelated f k a b j ≡ true → byPartner a ≡ true
+  unfolding byPartner
+  paired a b na nb va vb h =
+      let e = partner-is f k r marks j a b nb vb h in
+      and-both (isLive marks a) (hasPartner f k marks j a) va (lt-ltb 0 (livePartner f k marks j a) (omega (arith, e, nb .first)))
+
+  first : ℕ
+  first = firstFrom byPartner 1 (nodeCount f k)
+
+  -- one with a larger live node has a live partner
+  sooner : (a : ℕ) → 1 ≤ a → a < 1 + nodeCount f k → byLarger a ≡ true → (1 ≤ first) × (first ≤ a)
+  unfolding first byLarger
+  sooner a l u t =
+      let v = and-left (isLive marks a) (hasLarger f k marks j a) t in
+      let g = larger f k r marks j a (ltb-true 0 (largerNode f k marks j a) (and-right (isLive marks a) (hasLarger f k marks j a) t)) in
+      first-least byPartner 1 (nodeCount f k) a (omega arith) l u
+      (paired a (largerNode f k marks j a) (record { first = l; last = omega arith }) (record { first = omega (arith, g .above); last = g .last }) v (g .live) (g .related))
+
+  -- the first with a live partner is below it
+  below : 1 ≤ first → byLarger first ≡ true
+  unfolding first byLarger byPartner
+  below h =
+      let g = found byPartner 1 (nodeCount f k) h in
+      let v = and-left (isLive marks first) (hasPartner f k marks j first) (g .passes) in
+      let one = ltb-true 0 (livePartner f k marks j first) (and-right (isLive marks first) (hasPartner f k marks j first) (g .passes)) in
+      let p = live-partner f k r marks j first one in
+      let b = partner f k r marks j first in
+      let n : IsNode f k first = record { first = h; last = omega (arith, g .below) } in
+      let o : 1 ≤ b = omega (arith, p .is, one) in
+      let m = node-of f k r (bitXor (columnOf f k j) (columnOf f k first)) o .is-node in
+      let t = partner-related f k r marks j first o in
+      let s = first-least byPartner 1 (nodeCount f k) b (omega arith) o (omega (arith, m .last)) (paired b first m n (p .live) v (related-swap f k first b j t)) .1 in
+      let ne : first ≡ b → ⊥ = related-differ f k r first b j nj t in
+      let e = larger-is f k r marks j first n (omega (arith, s, ne)) (p .live) in
+      and-both (isLive marks first) (hasLarger f k marks j first) v (lt-ltb 0 (largerNode f k marks j first) (omega (arith, e, o)))
+
+  -- so that the first live node with a live partner is the smaller of the pair
+  smaller-is : smallerNode f k marks j ≡ first
+  unfolding smallerNode byLarger first
+  smaller-is = go (eq-zero-or-pos first)
+    where
+      go : (first ≡ 0) ⊎ (0 < first) → firstFrom byLarger 1 (nodeCount f k) ≡ first
+      go (inl e) = first-none byLarger 1 (nodeCount f k) (λ a l u. is-false (byLarger a) (λ t. omega (arith, e, sooner a l u t))) ∙ sym e
+      go (inr h) =
+          let b = below h in
+          first-of byLarger 1 (nodeCount f k) first h (omega (arith, found byPartner 1 (nodeCount f k) h .below)) b
+          (λ a l u. is-false (byLarger a) (λ t. omega (arith, u, sooner a l (omega (arith, u, found byPartner 1 (nodeCount f k) h .below)) t)))
+
+  pub smaller-first : smallerNode f k marks j ≡ firstIn (hasPartner f k marks j) (liveNodes marks (nodeCount f k))
+  unfolding first byPartner
+  smaller-first = smaller-is ∙ first-live (hasPartner f k marks j) marks 1 (nodeCount f k)
 
 -- ---- what a node's pair is, where it has one
 

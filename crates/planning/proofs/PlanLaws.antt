@@ -9,12 +9,12 @@ use Prim.Native.Nat.{ℕ, zero, suc, _+_, _-_, _≤_, _<_}
 use native.Mathlib.Decide.{decLt}
 use native.Mathlib.Omega.{arith}
 use borrow.Author.Tests.{lt-ltb}
-use lib.Bits.{xor-comm}
 use lib.ListN.{length}
 use Rattle.base.proofs.Tests.{and-both, not-both}
 use Rattle.families.specs.declared.Family.{Family}
 use Rattle.families.specs.Families.{KInRange, IsNode, nodeCount, columnOf, areRelated, firstFrom}
-use Rattle.families.proofs.Laws.{related-differ}
+use Rattle.families.proofs.First.{first-least}
+use Rattle.families.proofs.Laws.{related-differ, related-swap}
 use Rattle.lists.specs.Lists.{isLive, setLive}
 use Rattle.planning.specs.Claims.{CanMakeAll}
 use Rattle.planning.specs.Pairs.{smallerNode, largerNode, NoPairLeft}
@@ -25,31 +25,15 @@ use Rattle.planning.proofs.RoundLaws.{marks-append}
 
 -- ---- a round without steps
 
--- where a number passes, one is found
-first-hit : (test : ℕ → Bool) (j m i : ℕ) → 1 ≤ j → j ≤ i → i < j + m → test i ≡ true → 1 ≤ firstFrom test j m
-unfolding firstFrom
-first-hit test j zero i p l h t = absurd (omega arith)
-first-hit test j (suc m) i p l h t = go (test j) refl (λ g. first-hit test (suc j) m i (omega arith) g (omega arith) t)
-  where
-    go : (b : Bool) → test j ≡ b → (suc j ≤ i → 1 ≤ firstFrom test (suc j) m) → 1 ≤ cond b j (firstFrom test (suc j) m)
-    go true e later = p
-    go false e later =
-        let ne : j ≡ i → ⊥ = λ q. not-both (test i) t (ap test (sym q) ∙ e) in
-        later (omega arith)
-
-related-swap : (f : Family) (k a b c : ℕ) → areRelated f k a b c ≡ true → areRelated f k b a c ≡ true
-unfolding areRelated
-related-swap f k a b c h = rw (xor-comm (columnOf f k b) (columnOf f k a)) h
-
 module _ (f : Family) (k : ℕ) (marks : List Bool) where
   -- a live pair gives a smaller node
   smaller-hit : (j a b : ℕ) → IsNode f k a → IsNode f k b → a < b → isLive marks a ≡ true → isLive marks b ≡ true → areRelated f k a b j ≡ true → 1 ≤ smallerNode f k marks j
   unfolding smallerNode largerNode
   smaller-hit j a b na nb l va vb h =
       let larger : 1 ≤ largerNode f k marks j a =
-      first-hit (λ x. isLive marks x && areRelated f k a x j) (suc a) (nodeCount f k - a) b (omega arith) l (omega (arith, nb .last)) (and-both (isLive marks b) (areRelated f k a b j) vb h) in
-      first-hit (λ x. isLive marks x && hasLarger f k marks j x) 1 (nodeCount f k) a (omega arith) (na .first) (omega (arith, na .last))
-      (and-both (isLive marks a) (hasLarger f k marks j a) va (lt-ltb 0 (largerNode f k marks j a) larger))
+      first-least (λ x. isLive marks x && areRelated f k a x j) (suc a) (nodeCount f k - a) b (omega arith) l (omega (arith, nb .last)) (and-both (isLive marks b) (areRelated f k a b j) vb h) .0 in
+      first-least (λ x. isLive marks x && hasLarger f k marks j x) 1 (nodeCount f k) a (omega arith) (na .first) (omega (arith, na .last))
+      (and-both (isLive marks a) (hasLarger f k marks j a) va (lt-ltb 0 (largerNode f k marks j a) larger)) .0
 
   -- a node that is repaired has a step
   steps-hit : (r j m i : ℕ) → stepsFrom f k marks r j m ≡ [] → j ≤ i → i < j + m → isRepaired f k marks i ≡ true → ⊥

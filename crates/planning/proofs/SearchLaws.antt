@@ -13,9 +13,9 @@ use Rattle.families.specs.Families.{IsNode, nodeCount}
 use Rattle.lists.specs.Lists.{isLive, liveNodes}
 use Rattle.lists.proofs.Laws.{outside-none, live-nodes-inside}
 use Rattle.planning.specs.Pairs.{largerNode, smallerNode}
-use Rattle.planning.specs.Search.{RoundBegins, nextNode, repairOf}
+use Rattle.planning.specs.Search.{RoundBegins, livePartner, nextNode, repairOf}
 use Rattle.planning.specs.declared.Repair.{Repair}
-use Rattle.planning.proofs.PairLaws.{firstIn, first-step, first-end, hasLarger, smaller-first, next-skip, next-is, next-end, live-kept, none-kept, pair-repairs}
+use Rattle.planning.proofs.PairLaws.{firstIn, first-step, first-end, hasPartner, smaller-first, partner-is, pair-of, next-skip, next-is, next-end, live-kept, none-kept, pair-repairs}
 
 -- no node above `after` as far as `node` is repaired
 pub record Walking (f : Family) (k : ℕ) (columns live : List ℕ) (marks : List Bool) (after node : ℕ) : Type 0 where
@@ -23,11 +23,11 @@ pub record Walking (f : Family) (k : ℕ) (columns live : List ℕ) (marks : Lis
   pub within : node ≤ nodeCount f k
   pub rest : nextNode f k marks after ≡ nextNode f k marks node
 
--- `node` is missing, and none of the first i live nodes is the smaller of a pair that repairs it
+-- `node` is missing, and none of the first i live nodes has a live partner with which it repairs it
 pub record Searching (f : Family) (k : ℕ) (live : List ℕ) (marks : List Bool) (node i : ℕ) : Type 0 where
   pub missing : isLive marks node ≡ false
   pub within : i ≤ length live
-  pub rest : smallerNode f k marks node ≡ firstIn (hasLarger f k marks node) (drop i live)
+  pub rest : smallerNode f k marks node ≡ firstIn (hasPartner f k marks node) (drop i live)
 
 module _ {f : Family} {k : ℕ} {columns live : List ℕ} {marks : List Bool} {after : ℕ} where
   pub walk-none : RoundBegins f k columns live marks → after ≤ nodeCount f k → Walking f k columns live marks after after
@@ -46,7 +46,7 @@ module _ {f : Family} {k : ℕ} {columns live : List ℕ} {marks : List Bool} {a
       walk-live e = record { begins = w .begins; within = omega arith; rest = w .rest ∙ next-skip f k marks node l (live-kept f k marks (node + 1) e) }
 
       pub search-none : isLive marks (node + 1) ≡ false → Searching f k live marks (node + 1) 0
-      search-none e = record { missing = e; within = omega arith; rest = rw (w .begins .nodes) (smaller-first f k marks (node + 1)) }
+      search-none e = record { missing = e; within = omega arith; rest = rw (w .begins .nodes) (smaller-first f k (w .begins .range) marks (node + 1) (walk-node l)) }
 
       module _ {i : ℕ} (s : Searching f k live marks (node + 1) i) where
         pub walk-over : length live ≤ i → Walking f k columns live marks after (node + 1)
@@ -54,7 +54,7 @@ module _ {f : Family} {k : ℕ} {columns live : List ℕ} {marks : List Bool} {a
             record {
               begins = w .begins;
               within = omega arith;
-              rest = w .rest ∙ next-skip f k marks node l (none-kept f k marks (node + 1) (s .rest ∙ first-end (hasLarger f k marks (node + 1)) live i h));
+              rest = w .rest ∙ next-skip f k marks node l (none-kept f k marks (node + 1) (s .rest ∙ first-end (hasPartner f k marks (node + 1)) live i h));
             }
 
         module _ (h : i < length live) where
@@ -62,7 +62,7 @@ module _ {f : Family} {k : ℕ} {columns live : List ℕ} {marks : List Bool} {a
           a = getD live i 0
 
           abbrev b : ℕ
-          b = largerNode f k marks (node + 1) a
+          b = livePartner f k marks (node + 1) a
 
           pub search-node : IsNode f k a
           search-node =
@@ -70,13 +70,13 @@ module _ {f : Family} {k : ℕ} {columns live : List ℕ} {marks : List Bool} {a
               let p = outside-none (nodeCount f k) (liveNodes marks (nodeCount f k)) (live-nodes-inside marks (nodeCount f k)) i (rw e at h) in
               rw e (record { first = p .0; last = p .1 })
 
-          step : smallerNode f k marks (node + 1) ≡ cond (ltb 0 b) a (firstIn (hasLarger f k marks (node + 1)) (drop (i + 1) live))
-          step = s .rest ∙ first-step (hasLarger f k marks (node + 1)) live i h
+          step : smallerNode f k marks (node + 1) ≡ cond (ltb 0 b) a (firstIn (hasPartner f k marks (node + 1)) (drop (i + 1) live))
+          step = s .rest ∙ first-step (hasPartner f k marks (node + 1)) live i h
 
-          -- x is the i-th live node, and y the larger node that was found for it
-          module _ {x y : ℕ} (ex : x ≡ a) (ey : y ≡ largerNode f k marks (node + 1) x) where
+          -- x is the i-th live node, and y its live partner
+          module _ {x y : ℕ} (ex : x ≡ a) (ey : y ≡ livePartner f k marks (node + 1) x) where
             ends : y ≡ b
-            ends = ey ∙ ap (largerNode f k marks (node + 1)) ex
+            ends = ey ∙ ap (livePartner f k marks (node + 1)) ex
 
             pub search-more : y ≡ 0 → Searching f k live marks (node + 1) (i + 1)
             search-more e = record { missing = s .missing; within = omega arith; rest = step ∙ simp (le-ltb 0 b (omega (arith, ends))) }
@@ -86,4 +86,6 @@ module _ {f : Family} {k : ℕ} {columns live : List ℕ} {marks : List Bool} {a
             search-found ne =
                 let e : smallerNode f k marks (node + 1) ≡ a = step ∙ simp (lt-ltb 0 b (omega (arith, ne, ends))) in
                 let n = next-is f k marks node l (pair-repairs f k marks (node + 1) (s .missing) (omega (arith, search-node .first))) in
-                rw (w .rest, n, ne-eqb (node + 1) 0 (λ z. omega arith), e, ← ends, ← ex)
+                let p = pair-of f k (w .begins .range) marks (node + 1) (omega (arith, e, search-node .first)) in
+                let g : largerNode f k marks (node + 1) a ≡ b = partner-is f k (w .begins .range) marks (node + 1) a (largerNode f k marks (node + 1) a) (rw e at (p .larger)) (rw e at (p .larger-live)) (rw e at (p .related)) in
+                rw (w .rest, n, ne-eqb (node + 1) 0 (λ z. omega arith), e, g, ← ends, ← ex)

@@ -3,10 +3,11 @@ use mathlib.Core.Path.{_≡_}
 use mathlib.Core.Bool.{Bool, cond}
 use mathlib.Core.List.{List}
 use Prim.Native.Nat.{ℕ, suc, _-_}
+use lib.Bits.{bitXor}
 use lib.Dec.{eqb}
 use Rattle.families.specs.declared.Family.{Family}
-use Rattle.families.specs.Families.{KInRange, nodeCount, columnTable, firstFrom}
-use Rattle.lists.specs.Lists.{liveNodes}
+use Rattle.families.specs.Families.{KInRange, nodeCount, columnOf, nodeOf, columnTable, firstFrom}
+use Rattle.lists.specs.Lists.{isLive, liveNodes}
 use Rattle.planning.specs.Pairs.{smallerNode, largerNode}
 use Rattle.planning.specs.Plan.{isRepaired}
 use Rattle.planning.specs.declared.Repair.{Repair}
@@ -16,6 +17,11 @@ pub record RoundBegins (f : Family) (k : ℕ) (columns live : List ℕ) (marks :
   pub range : KInRange f k
   pub table : columns ≡ columnTable f k
   pub nodes : live ≡ liveNodes marks (nodeCount f k)
+
+-- the node related to a and j, where it is live; 0 where there is none
+unfoldable pub livePartner : Family → ℕ → List Bool → ℕ → ℕ → ℕ
+livePartner f k marks j a =
+    let b = nodeOf f k (bitXor (columnOf f k j) (columnOf f k a)) in cond (isLive marks b) b 0
 
 -- the first node above another one that the round repairs; 0 where there is none
 abbrev pub nextNode : Family → ℕ → List Bool → ℕ → ℕ

@@ -4,8 +4,7 @@ use families::Family;
 ghost use mathlib.Core.Path.{_≡_};
 ghost use Prim.Native.Nat.{ℕ, _≤_};
 ghost use Rattle.families.specs.Families.{KInRange, IsNode, nodeCount, columnTable};
-ghost use Rattle.planning.specs.Pairs.{largerNode};
-ghost use Rattle.planning.specs.Search.{RoundBegins, nextNode, repairOf};
+ghost use Rattle.planning.specs.Search.{RoundBegins, livePartner, nextNode, repairOf};
 
 struct Pair {
     smaller: usize,
@@ -19,8 +18,9 @@ fn wide(byte: u8) -> usize
     byte as usize
 }
 
-// The live node above a that is related to a and j, or 0: no other node than that with the XOR of their columns can be it.
-fn larger_node(
+// The node related to a and j, where it is live, or 0. Whether it is above a need not be asked: first members go upward, and a
+// live node below a with a as its partner would have been found before.
+fn live_partner(
     family: Family,
     k: usize,
     columns: &[usize; 256],
@@ -30,13 +30,10 @@ fn larger_node(
 ) -> usize
     requires { ⌜ KInRange family k × IsNode family k j × IsNode family k a ⌝ }
     requires { ⌜ now columns ≡ columnTable family k ⌝ }
-    ensures { λ r. ⌜ r ≡ largerNode family k (now (marks .entry)) j a ⌝ }
+    ensures { λ r. ⌜ r ≡ livePartner family k (now (marks .entry)) j a ⌝ }
 {
-    let b = families::node_of(family, k, columns[j] ^ columns[a]);
+    let b = families::third_node(family, k, columns[j], columns[a]);
     if !marks[b] {
-        return 0;
-    }
-    if b <= a {
         return 0;
     }
     b
@@ -69,7 +66,7 @@ pub fn next_repair(
                 continue 'walk;
             }
             let a = wide(live[i]);
-            let b = larger_node(family, k, columns, marks, node, a);
+            let b = live_partner(family, k, columns, marks, node, a);
             if b != 0 {
                 break 'search Pair {
                     smaller: a,

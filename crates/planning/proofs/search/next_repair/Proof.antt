@@ -1,5 +1,5 @@
 -- `planning::search::next_repair` meets its contract: the walk leaves behind it no node that the round repairs, and at a missing
--- node the search leaves behind it no live node that is the smaller of its pair.
+-- node the search leaves behind it no live node with a live partner.
 -- Assumes nothing.
 use mathlib.Core.Path.{_≡_, refl, sym, ap, _∙_}
 use Prim.Native.Nat.{ℕ, _+_, _-_, _≤_, _<_}
@@ -46,8 +46,8 @@ search-holds c = search-none (c .before .before .before .walk .inv) (below (c .b
 walk-again-2 : tie.Need-walk-again-2 Inv-search μ-search Inv-walk μ-walk
 walk-again-2 c = walk-over (c .before .before .before .before .before .walk .inv) (below (c .before .before .before .before)) (c .before .search .inv) (omega arith)
 
-larger-node-requires : tie.Need-larger-node-requires Inv-search μ-search Inv-walk μ-walk
-larger-node-requires c κs =
+live-partner-requires : tie.Need-live-partner-requires Inv-search μ-search Inv-walk μ-walk
+live-partner-requires c κs =
     let w = c .before .before .before .before .before .before .before .walk .inv in
     let l = below (c .before .before .before .before .before .before) in
     ((w .begins .range, walk-node w l, rw (c .wide .ensures) (search-node w l (c .before .before .before .search .inv) (omega arith))), w .begins .table)
@@ -56,13 +56,13 @@ search-again : tie.Need-search-again Inv-search μ-search Inv-walk μ-walk
 search-again c =
     let w = c .before .before .before .before .before .before .before .before .before .walk .inv in
     search-more w (below (c .before .before .before .before .before .before .before .before)) (c .before .before .before .before .before .search .inv) (omega arith)
-    (c .before .before .wide .ensures) (c .before .larger-node .ensures) (omega arith)
+    (c .before .before .wide .ensures) (c .before .live-partner .ensures) (omega arith)
 
 returns : tie.Need-returns Inv-search μ-search Inv-walk μ-walk
 returns c =
     let w = c .before .before .before .before .before .before .before .before .before .walk .inv in
     search-found w (below (c .before .before .before .before .before .before .before .before)) (c .before .before .before .before .before .search .inv) (omega arith)
-    (c .before .before .wide .ensures) (c .before .larger-node .ensures) (c .if2 .taken)
+    (c .before .before .wide .ensures) (c .before .live-partner .ensures) (c .if2 .taken)
 
 returns-2 : tie.Need-returns-2 Inv-search μ-search Inv-walk μ-walk
 returns-2 c = walk-done (c .before .walk .inv) (omega (arith, c .before .before .node-count .ensures))
@@ -86,7 +86,7 @@ next-repair-spec =
     walk-again-2
     (λ c. search needs)
     (λ c κs. search needs)
-    larger-node-requires
+    live-partner-requires
     (λ c. search needs)
     (λ c. search needs)
     search-again

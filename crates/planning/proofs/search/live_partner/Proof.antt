@@ -1,0 +1,58 @@
+-- `planning::search::live_partner` meets its contract: the only node that can be it is the one with the XOR of the columns.
+-- Assumes nothing.
+use mathlib.Core.Path.{_≡_}
+use native.Mathlib.Omega.{arith}
+use denote.Ref.{now}
+use borrow.Author.Tests.{not-true, not-false}
+use borrow.Author.Needs.{needs}
+use Rattle.families.proofs.Laws.{few, column}
+use Rattle.families.proofs.TableLaws.{table-at}
+use Rattle.planning.proofs.PairLaws.{partner, partner-at, partner-few, live-none, live-is}
+use Rattle.planning.proofs.search.live_partner.Statement.{statement}
+use Rattle.planning.proofs.search.live_partner.Tie as tie
+
+element-copy-out-third-node : tie.Need-element-copy-out-third-node
+element-copy-out-third-node c = omega (arith, c .pre .0 .1 .last, few _ _ (c .pre .0 .0))
+
+element-copy-out-third-node-2 : tie.Need-element-copy-out-third-node-2
+element-copy-out-third-node-2 c = omega (arith, c .before .pre .0 .2 .last, few _ _ (c .before .pre .0 .0))
+
+third-node-requires : tie.Need-third-node-requires
+third-node-requires c κs =
+    let p = c .before .before .pre in (
+      p .0 .0,
+      rw (p .1, table-at _ _ _ (p .0 .0) (p .0 .1)) (column _ _ _ (p .0 .0) (p .0 .1) .below),
+      rw (p .1, table-at _ _ _ (p .0 .0) (p .0 .2)) (column _ _ _ (p .0 .0) (p .0 .2) .below),
+    )
+
+-- b is the partner
+is-partner : (c : tie.After-third-node) → c .third-node .result ≡ partner (c .before .before .before .args .family) (c .before .before .before .args .k) (c .before .before .before .pre .0 .0) (now (c .before .before .before .args .marks)) (c .before .before .before .args .j) (c .before .before .before .args .a)
+is-partner c =
+    let p = c .before .before .before .pre in
+    partner-at _ _ (p .0 .0) (now (c .before .before .before .args .marks)) _ _ (p .0 .1) (p .0 .2) (p .1) (c .third-node .ensures)
+
+element-copy-out-if1 : tie.Need-element-copy-out-if1
+element-copy-out-if1 c = let p = c .before .before .before .pre in omega (arith, is-partner c, partner-few _ _ (p .0 .0) (now (c .before .before .before .args .marks)) (c .before .before .before .args .j) (c .before .before .before .args .a))
+
+returns : tie.Need-returns
+returns c =
+    let g = c .before .before .before .before .before .args in
+    live-none (g .family) (g .k) (c .before .before .before .before .before .pre .0 .0) (now (g .marks)) (g .j) (g .a) (is-partner (c .before .before)) (not-true _ (c .if1 .taken))
+
+returns-2 : tie.Need-returns-2
+returns-2 c =
+    let g = c .before .before .before .before .before .args in
+    live-is (g .family) (g .k) (c .before .before .before .before .before .pre .0 .0) (now (g .marks)) (g .j) (g .a) (is-partner (c .before .before)) (not-false _ (c .if1 .left))
+
+pub live-partner-spec : {M : Type 1} → statement M
+live-partner-spec =
+    tie.close
+    (tie.spec
+    (λ c. omega (arith, element-copy-out-third-node c))
+    element-copy-out-third-node
+    (λ c. omega (arith, element-copy-out-third-node-2 c))
+    element-copy-out-third-node-2
+    third-node-requires
+    element-copy-out-if1
+    returns
+    returns-2)
