@@ -128,6 +128,28 @@ module _ (s : Session) (nodes : List ℕ) (e : firstMet (runChecks s nodes) ≡ 
       steps-held s nodes (planIn s) run-sized (plan-claim (familyOf (s .family)) (s .k) (run-known .range .blocks) (s .live) size .makes)
       ∙ rw (session-ran, nodes-ran)
 
+-- ---- the session that a call gives back
+
+module _ (s : Session) (starts : noStart s ≡ false) (nodes : List ℕ) where
+  pub stays-stepped : (j a b : ℕ) → noStart (stepped s nodes j a b .session) ≡ false
+  unfolding stepped
+  stays-stepped j a b = go (eqb (firstMet (stepChecks s nodes j a b)) 0) refl
+    where
+      made : Step
+      made = record { round = 0; node = j; smaller = a; larger = b }
+
+      go : (met : Bool) → eqb (firstMet (stepChecks s nodes j a b)) 0 ≡ met → noStart (stepped s nodes j a b .session) ≡ false
+      go true e = let w = accepted-step s nodes made (eqb-true _ 0 e) in rw (session-stepped s nodes made w) (start-kept s j (w .makes .node) ∙ starts)
+      go false e = rw e starts
+
+  pub stays-ran : length (s .live) ≡ 256 → noStart (ran s nodes .session) ≡ false
+  unfolding ran
+  stays-ran size = go (eqb (firstMet (runChecks s nodes)) 0) refl
+    where
+      go : (met : Bool) → eqb (firstMet (runChecks s nodes)) 0 ≡ met → noStart (ran s nodes .session) ≡ false
+      go true e = ran-sized s nodes (eqb-true _ 0 e) size .starts
+      go false e = rw e starts
+
 -- ---- the object's own blocks
 
 module _ (object : List ℕ) where

@@ -6,9 +6,13 @@ use Rattle.lists.specs.Lists.{isLive}
 use Rattle.planning.specs.Pairs.{NoPairLeft}
 use Rattle.planning.proofs.Proved.{plan-claim}
 use Rattle.repair.specs.declared.Session.{Session}
-use Rattle.repair.specs.Calls.{heldAfter}
-use Rattle.repair.specs.RepairClaims.{RunIsStepsClaim, RunEndsClaim, OwnClaim}
-use Rattle.repair.proofs.OwnLaws.{run-known, session-ran, run-steps, OwnHeld, own-moves, own-out}
+use Rattle.repair.specs.Calls.{step, run, heldAfter}
+use Rattle.repair.specs.RepairClaims.{StaysClaim, RunIsStepsClaim, RunEndsClaim, OwnClaim}
+use Rattle.repair.proofs.OwnLaws.{stays-stepped, stays-ran, run-known, session-ran, run-steps, OwnHeld, own-moves, own-out}
+
+pub stays-claim : StaysClaim
+stays-claim s size starts nodes (step j a b) = stays-stepped s starts nodes j a b
+stays-claim s size starts nodes run = stays-ran s starts nodes size
 
 pub run-is-steps : RunIsStepsClaim
 run-is-steps s size nodes e = run-steps s nodes e size

@@ -1,6 +1,6 @@
 -- What is proved of steps and runs besides their own equations and demand 3; proofs/RepairsProved.antt has the proofs.
 use mathlib.Core.Path.{_≡_}
-use mathlib.Core.Bool.{true}
+use mathlib.Core.Bool.{true, false}
 use mathlib.Core.List.{List, map}
 use Prim.Native.Nat.{ℕ, _*_}
 use lib.ListN.{length}
@@ -12,9 +12,17 @@ use Rattle.lists.specs.Lists.{isLive}
 use Rattle.planning.specs.Pairs.{NoPairLeft}
 use Rattle.planning.specs.Plan.{Step}
 use Rattle.repair.specs.declared.Session.{Session}
+use Rattle.repair.specs.Session.{noStart}
 use Rattle.repair.specs.Repairs.{planIn, runChecks, ran, nodesRan}
 use Rattle.repair.specs.ReadOut.{readOutChecks, objectOut}
-use Rattle.repair.specs.Calls.{Move, step, Held, heldAfter}
+use Rattle.repair.specs.Calls.{Move, step, sessionAfter, Held, heldAfter}
+
+-- ---- marks for 0 and above n are never live
+
+-- a session that some start gives is handed back as one, by a step and by a run, refused or not
+abbrev pub StaysClaim : Type 0
+StaysClaim = (s : Session) → length (s .live) ≡ 256 → noStart s ≡ false
+    → (nodes : List ℕ) (move : Move) → noStart (sessionAfter s nodes move) ≡ false
 
 -- ---- run and the plan's steps
 
