@@ -4,13 +4,6 @@ use libc::STDOUT_FILENO;
 ghost use mathlib.Core.Path.{_≡_};
 ghost use lib.ListN.{length};
 
-// Room for one byte more than the longest box, by which a longer input is known.
-fn input_room() -> [u8; 65537]
-    ensures { λ r. ⌜ 65537 ≡ length r ⌝ }
-{
-    [0u8; 65537]
-}
-
 fn output_room() -> [u8; 8192]
     ensures { λ r. ⌜ 8192 ≡ length r ⌝ }
 {
@@ -18,7 +11,7 @@ fn output_room() -> [u8; 8192]
 }
 
 fn main() {
-    let mut input = input_room();
+    let mut input = listing::input_room();
     let count = io::read_full(STDIN_FILENO, &mut input);
     let mut out = output_room();
     let size = listing::list(&input[..count], &mut out);

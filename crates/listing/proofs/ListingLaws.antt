@@ -16,6 +16,7 @@ use Rattle.boxes.proofs.Laws.{accepted-box}
 use Rattle.planning.specs.Made.{stepsIn}
 use Rattle.planning.proofs.CarryLaws.{steps-back}
 use Rattle.repair.specs.declared.Session.{Session}
+use Rattle.repair.specs.declared.Repairs.{Repairs}
 use Rattle.repair.specs.declared.Started.{Started}
 use Rattle.repair.specs.Session.{noStart}
 use Rattle.repair.specs.Boxed.{sessionIn, boxAnswer, checkedBox}
@@ -90,16 +91,25 @@ module _ (input : List ℕ) where
 
 -- ---- the plan of an accepted box's session
 
+-- what is drawn up into the bytes is the session's plan, of at most 255 steps
+pub record Drawn (s : Session) (bytes : List ℕ) (made : Repairs) : Type 0 where
+  pub answer-is : made ≡ repairsOf s s
+  pub steps-are : stepsIn bytes (made .steps) ≡ planIn s
+  pub short : made .steps ≤ 255
+
 module _ (s : Session) (starts : noStart s ≡ false) (size : length (s .live) ≡ 256) where
-  pub plan-short : length (planIn s) ≤ 255
+  plan-short : length (planIn s) ≤ 255
   plan-short =
       let range = known s starts .range .blocks in
       omega (arith, plan-few (familyOf (s .family)) (s .k) range (s .live) size, few (familyOf (s .family)) (s .k) range)
 
-  module _ (before : List ℕ) (room : length before ≡ 1020) where
-    -- room for 255 steps is enough, so that the plan is not refused
-    pub plan-is : planned s before ≡ repairsOf s s
-    plan-is = sym (plan-made s before starts (omega (arith, plan-short)) .answer-is)
-
-    pub steps-are : stepsIn (outPlanned s before) (length (planIn s)) ≡ planIn s
-    steps-are = rw (← plan-made s before starts (omega (arith, plan-short)) .out-is) (steps-back (planIn s) (drop (4 * length (planIn s)) before))
+  -- room for 255 steps is enough, so that the plan is not refused
+  pub drawn : (before : List ℕ) {bytes : List ℕ} {made : Repairs} → length before ≡ 1020 → made ≡ planned s before → bytes ≡ outPlanned s before → Drawn s bytes made
+  drawn before room e f =
+      let p = plan-made s before starts (omega (arith, plan-short)) in
+      let d = e ∙ sym (p .answer-is) in
+      record {
+        answer-is = d;
+        steps-are = rw (d, f, ← p .out-is) (steps-back (planIn s) (drop (4 * length (planIn s)) before));
+        short = rw d plan-short;
+      }

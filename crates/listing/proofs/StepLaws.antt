@@ -7,11 +7,14 @@ use native.Mathlib.Numerals.{add-one}
 use native.Mathlib.Omega.{arith}
 use lib.ListN.{length, getD, drop, take-append-drop}
 use lib.Seq.{getD-drop}
-use borrow.Rule.Slice.PartMut.{putMid}
+use mir.Syntax.{w8}
+use mir.Val.{Fits}
 use Rattle.planning.specs.Plan.{Step}
 use Rattle.planning.specs.Made.{stepsIn}
+use Rattle.listing.specs.Put.{Put}
 use Rattle.listing.specs.Text.{stepLine, stepLines}
-use Rattle.listing.proofs.PutLaws.{Laid, laid, then, whole, laid-size}
+use Rattle.listing.proofs.TextLaws.{step-line-most}
+use Rattle.listing.proofs.PutLaws.{kept, then}
 
 -- step i, from 0, in a list of bytes
 abbrev pub stepAt : List ℕ → ℕ → Step
@@ -34,43 +37,41 @@ lines-more : (bytes : List ℕ) (i : ℕ) → stepLines (stepsIn bytes i) ++ ste
 unfolding stepLines
 lines-more bytes i = rw (add-one i, one-more bytes i, lines-append (stepsIn bytes i) (stepAt bytes i ∷ []), append-nil)
 
--- the lines of the first i steps are put
+-- a step of bytes has a line of at most 16 bytes
+step-short : (bytes : List ℕ) (i : ℕ) → ((j : ℕ) → Fits w8 (getD bytes j 0)) → length (stepLine (stepAt bytes i)) ≤ 16
+step-short bytes i h =
+    let g : (j : ℕ) → getD bytes j 0 < 256 = λ j. omega (arith, h j) in
+    step-line-most (stepAt bytes i) (g _) (g _) (g _) (g _)
+
+-- the lines of the first i steps are put, each at most 16 bytes long
 pub record Lined (bytes : List ℕ) (count : ℕ) (start : List ℕ) (at : ℕ) (out : List ℕ) (next i : ℕ) : Type 0 where
-  pub bytes-there : 4 * count ≤ length bytes
-  pub room : at + 16 * count ≤ length start
   pub within : i ≤ count
   pub short : next ≤ at + 16 * i
-  pub kept : length out ≡ length start
-  pub done : Laid start at (stepLines (stepsIn bytes i)) out next
+  pub done : Put start at (stepLines (stepsIn bytes i)) out next
 
-pub lined-none : {bytes start : List ℕ} {count at : ℕ} → 4 * count ≤ length bytes → at + 16 * count ≤ length start → Lined bytes count start at start at 0
+pub lined-none : {bytes start : List ℕ} {count at : ℕ} → at ≤ length start → Lined bytes count start at start at 0
 unfolding stepLines stepsIn
-lined-none {bytes} {start} {count} {at} h g =
+lined-none {bytes} {start} {count} {at} h =
     record {
-      bytes-there = h;
-      room = g;
       within = omega arith;
       short = omega arith;
-      kept = refl;
-      done = laid start at [] start at (omega arith) (sym (take-append-drop at start)) (omega arith);
+      done = record { is = sym (take-append-drop at start); ends = omega arith; fits = h };
     }
 
 module _ {bytes : List ℕ} {count : ℕ} {start : List ℕ} {at : ℕ} {out : List ℕ} {next i : ℕ} (w : Lined bytes count start at out next i) where
-  pub lined-more : (out' : List ℕ) (next' : ℕ) → i < count → out' ≡ putMid next (length (stepLine (stepAt bytes i))) out (stepLine (stepAt bytes i))
-      → next' ≡ next + length (stepLine (stepAt bytes i)) → next' ≤ next + 16 → Lined bytes count start at out' next' (i + 1)
-  lined-more out' next' l e f h =
-      let n = whole (then (w .done) (stepLine (stepAt bytes i)) out' next' e f) (stepLines (stepsIn bytes (i + 1))) (lines-more bytes i) in
-      let d = laid start at (stepLines (stepsIn bytes (i + 1))) out' next' (w .done .room) (n .1) (n .0) in
-      record {
-        bytes-there = w .bytes-there;
-        room = w .room;
-        within = omega arith;
-        short = omega (arith, w .short);
-        kept = laid-size d (omega (arith, w .short, w .room));
-        done = d;
-      }
+  module _ (l : i < count) (small : (j : ℕ) → Fits w8 (getD bytes j 0)) where
+    pub lined-room : at + 16 * count ≤ length start → next + length (stepLine (stepAt bytes i)) ≤ length out
+    lined-room h = omega (arith, w .short, kept (w .done), step-short bytes i small)
 
-  pub lined-done : count ≤ i → ((next ≡ at + length (stepLines (stepsIn bytes count))) × (next ≤ at + 16 * count)) × (out ≡ putMid at (length (stepLines (stepsIn bytes count))) start (stepLines (stepsIn bytes count)))
+    pub lined-more : {out' : List ℕ} {next' : ℕ} → Put out next (stepLine (stepAt bytes i)) out' next' → Lined bytes count start at out' next' (i + 1)
+    lined-more p =
+        record {
+          within = omega arith;
+          short = omega (arith, w .short, p .ends, step-short bytes i small);
+          done = rw (lines-more bytes i) at (then (w .done) p);
+        }
+
+  pub lined-done : count ≤ i → Put start at (stepLines (stepsIn bytes count)) out next × (next ≤ at + 16 * count)
   lined-done l =
       let e : i ≡ count = omega (arith, w .within) in
-      rw (← e) ((w .done .ends, w .short), w .done .is)
+      rw (← e) (w .done, w .short)

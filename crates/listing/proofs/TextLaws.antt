@@ -59,18 +59,22 @@ decimal-most n m a b h =
 
 -- ---- a word and a number after it
 
-pub length-field : (word : List ℕ) (n : ℕ) → length (field word n) ≡ length word + length (decimal n)
+length-field : (word : List ℕ) (n : ℕ) → length (field word n) ≡ length word + length (decimal n)
 unfolding field
 length-field word n = length-append word (decimal n)
 
 -- a number of 64 bits has at most 20 digits, a byte 3
-pub wide-field : (word : List ℕ) (n : ℕ) → n < 2 ^ 64 → length (field word n) ≤ length word + 20
+wide-field : (word : List ℕ) (n : ℕ) → n < 2 ^ 64 → length (field word n) ≤ length word + 20
 wide-field word n h = omega (arith, length-field word n, decimal-most n 20 (omega arith) (omega arith) (omega arith))
 
-pub byte-field : (word : List ℕ) (n : ℕ) → n < 256 → length (field word n) ≤ length word + 3
+byte-field : (word : List ℕ) (n : ℕ) → n < 256 → length (field word n) ≤ length word + 3
 byte-field word n h = omega (arith, length-field word n, decimal-most n 3 (omega arith) (omega arith) (omega arith))
 
 -- ---- how long the lines are
+
+-- where the longest has room, the line has
+pub enough : (at : ℕ) {line most room : ℕ} → line ≤ most → at + most ≤ room → at + line ≤ room
+enough at h g = omega arith
 
 pub first-line-most : (family k L live : ℕ) → family < 2 ^ 64 → k < 2 ^ 64 → L < 2 ^ 64 → live < 2 ^ 64 → length (firstLine family k L live) ≤ 105
 unfolding firstLine

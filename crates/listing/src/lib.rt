@@ -11,14 +11,23 @@ use repair::Session;
 ghost use mathlib.Core.Path.{_≡_};
 ghost use mathlib.Core.Bool.{false};
 ghost use mathlib.Core.List.{[], _++_};
-ghost use Prim.Native.Nat.{_≤_};
+ghost use Prim.Native.Nat.{_+_, _≤_};
 ghost use lib.ListN.{length, drop};
 ghost use Rattle.repair.specs.Session.{noStart};
-ghost use Rattle.listing.specs.Text.{tooLongLine};
+ghost use Rattle.repair.specs.Repairs.{planIn, repairsOf};
+ghost use Rattle.listing.specs.Put.{Put};
+ghost use Rattle.listing.specs.Text.{stepLines, lastLine, tooLongLine};
 ghost use Rattle.listing.specs.Listing.{answerOf, listingIn, listingOf};
 
 // The most bytes that a program reads, and that a box which it writes may have.
 pub const MOST_BYTES: usize = 65536;
+
+// Room for one byte more than the longest box, by which a longer input is known.
+pub fn input_room() -> [u8; 65537]
+    ensures { λ r. ⌜ 65537 ≡ length r ⌝ }
+{
+    [0u8; 65537]
+}
 
 // `too long`, at the front of `out`; gives its length.
 pub fn put_too_long(out: &mut [u8]) -> usize
@@ -46,21 +55,30 @@ pub fn turned_away(input: &[u8], out: &mut [u8]) -> usize
     put_refusal_line(number as usize, out)
 }
 
+// The plan of an accepted box's session, a line for each step and the last line, from place `at` on; gives the place after it.
+// There is room for 255 steps, 16 bytes each, and 81 bytes more.
+fn put_plan(session: Session, out: &mut [u8], at: usize) -> usize
+    requires { ⌜ noStart session ≡ false ⌝ }
+    requires { ⌜ at + 4161 ≤ length (now out) ⌝ }
+    ensures { λ r. ⌜ Put (now (out .entry)) at (stepLines (planIn session) ++ lastLine (repairsOf session session .steps) (repairsOf session session .rounds) (repairsOf session session .left)) (now (out .exit)) r ⌝ }
+{
+    let mut steps = repair::plan_room();
+    let made = session.plan(&mut steps);
+    let last = put_step_lines(&steps, made.steps, out, at);
+    put_last_line(made.steps, made.rounds, made.left, out, last)
+}
+
 // The listing of an accepted box's session, at the front of `out`; gives its length.
 fn put_listing(session: Session, out: &mut [u8]) -> usize
     requires { ⌜ noStart session ≡ false ⌝ }
-    requires { ⌜ length (now out) ≡ 8192 ⌝ }
-    ensures { λ r. ⌜ (r ≡ length (listingIn session)) × (r ≤ 8192) ⌝ }
-    ensures { λ _. ⌜ now (out .exit) ≡ listingIn session ++ drop (length (listingIn session)) (now (out .entry)) ⌝ }
+    requires { ⌜ 8192 ≤ length (now out) ⌝ }
+    ensures { λ r. ⌜ Put (now (out .entry)) 0 (listingIn session) (now (out .exit)) r ⌝ }
 {
     let n = families::node_count_of(session.family, session.k);
     let live = session.live;
     let count = lists::count_live(&live, n);
-    let first = put_first_line(session.family, session.k, session.len, count, out);
-    let mut steps = repair::plan_room();
-    let made = session.plan(&mut steps);
-    let last = put_step_lines(&steps, made.steps, out, first);
-    put_last_line(made.steps, made.rounds, made.left, out, last)
+    let next = put_first_line(session.family, session.k, session.len, count, out);
+    put_plan(session, out, next)
 }
 
 // What the lister prints of its input, at the front of `out`; gives its length. `out` beyond it is not written.

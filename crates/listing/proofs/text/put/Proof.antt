@@ -2,6 +2,7 @@
 -- Assumes nothing.
 use mathlib.Core.Path.{refl}
 use native.Mathlib.Nat.{add-sub-cancel-left}
+use native.Mathlib.Omega.{arith}
 use lib.ListN.{length}
 use borrow.Author.Needs.{needs}
 use Rattle.listing.proofs.text.put.Statement.{statement}
@@ -10,7 +11,11 @@ use Rattle.listing.proofs.text.put.Tie as tie
 returns : tie.Need-returns
 returns c =
     let g = c .before .before .before .before .before .before .args in
-    (refl, rw (c .before .before .copy-block .ensures, add-sub-cancel-left (g .at) (length (g .word .now))))
+    record {
+      is = rw (c .before .before .copy-block .ensures, add-sub-cancel-left (g .at) (length (g .word .now)));
+      ends = refl;
+      fits = omega arith;
+    }
 
 pub put-spec : {M : Type 1} → statement M
 put-spec =

@@ -8,18 +8,14 @@ use borrow.Author.Needs.{needs}
 use Rattle.listing.proofs.text.put_number.Statement.{statement}
 use Rattle.listing.proofs.text.put_number.Tie as tie
 
+digits : (c : tie.After-decimal) → take (c .decimal .result) (c .decimal .last .1 .0) ≡ decimal (c .before .before .before .args .n)
+digits c = c .decimal .ensures .1 .1 ∙ decimal-is _ (c .decimal .result) (search needs) (c .decimal .ensures .1 .0)
+
 put-requires : tie.Need-put-requires
-put-requires c κs =
-    let d = c .before .before .decimal in
-    let e : take (d .result) (d .last .1 .0) ≡ decimal (c .before .before .before .before .before .args .n) = d .ensures .1 .1 ∙ decimal-is _ (d .result) (search needs) (d .ensures .1 .0) in
-    rw e (c .before .before .before .before .before .pre)
+put-requires c κs = rw (digits (c .before .before)) (c .before .before .before .before .before .pre)
 
 returns : tie.Need-returns
-returns c =
-    let d = c .before .before .before .before .before .decimal in
-    let e : take (d .result) (d .last .1 .0) ≡ decimal (c .before .before .before .before .before .before .before .before .args .n) = d .ensures .1 .1 ∙ decimal-is _ (d .result) (search needs) (d .ensures .1 .0) in
-    let p = c .before .before .put in
-    (p .ensures .0 ∙ rw e, p .ensures .1 ∙ rw e)
+returns c = rw (digits (c .before .before .before .before .before)) at (c .before .before .put .ensures)
 
 pub put-number-spec : {M : Type 1} → statement M
 put-number-spec =
