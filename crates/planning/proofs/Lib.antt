@@ -1,4 +1,5 @@
 pub mod PairLaws
+pub mod WorthLaws
 pub mod SearchLaws
 pub mod Steps
 pub mod RoundLaws

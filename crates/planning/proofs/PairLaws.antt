@@ -24,14 +24,23 @@ use Rattle.families.proofs.TableLaws.{table-at}
 use Rattle.lists.specs.Lists.{isLive, liveFrom, liveNodes}
 use Rattle.planning.specs.Pairs.{largerNode, smallerNode}
 use Rattle.planning.specs.Plan.{isRepaired}
-use Rattle.planning.specs.Search.{livePartner, nextNode}
+use Rattle.planning.specs.Search.{thirdNode, livePartner, nextNode}
+
+-- ---- the node related to two others
+
+pub third-few : (f : Family) (k : ℕ) → KInRange f k → (a b : ℕ) → thirdNode f k a b < 256
+third-few f k r a b = go (eq-zero-or-pos (thirdNode f k a b))
+  where
+    go : (thirdNode f k a b ≡ 0) ⊎ (0 < thirdNode f k a b) → thirdNode f k a b < 256
+    go (inl e) = omega arith
+    go (inr h) = omega (arith, node-of f k r (bitXor (columnOf f k a) (columnOf f k b)) h .is-node .last, few f k r)
 
 -- ---- the larger node
 
 module _ (f : Family) (k : ℕ) (r : KInRange f k) (marks : List Bool) (j a : ℕ) where
   -- the only node that can be related to a and j
   abbrev pub partner : ℕ
-  partner = nodeOf f k (bitXor (columnOf f k j) (columnOf f k a))
+  partner = thirdNode f k j a
 
   -- as it is found in the table of columns
   pub partner-at : {columns : List ℕ} {b : ℕ} → IsNode f k j → IsNode f k a → columns ≡ columnTable f k
@@ -43,13 +52,6 @@ module _ (f : Family) (k : ℕ) (r : KInRange f k) (marks : List Bool) (j a : �
   related-partner b nb h =
       let t = related-turn f k b j a (related-turn f k a b j h) in
       node-is f k r (bitXor (columnOf f k j) (columnOf f k a)) b nb (xor-third (columnOf f k j) (columnOf f k a) (columnOf f k b) (eqb-true _ 0 t))
-
-  pub partner-few : partner < 256
-  partner-few = go (eq-zero-or-pos partner)
-    where
-      go : (partner ≡ 0) ⊎ (0 < partner) → partner < 256
-      go (inl e) = omega arith
-      go (inr h) = omega (arith, node-of f k r (bitXor (columnOf f k j) (columnOf f k a)) h .is-node .last, few f k r)
 
   pub partner-related : 1 ≤ partner → areRelated f k a partner j ≡ true
   unfolding areRelated
@@ -228,6 +230,7 @@ module _ (f : Family) (k : ℕ) (r : KInRange f k) (marks : List Bool) (j : ℕ)
   large = largerNode f k marks j small
 
   pub record PairOf : Type 0 where
+    pub order : small < large
     pub smaller : IsNode f k small
     pub larger : IsNode f k large
     pub smaller-live : isLive marks small ≡ true
@@ -240,6 +243,7 @@ module _ (f : Family) (k : ℕ) (r : KInRange f k) (marks : List Bool) (j : ℕ)
       let g = found (λ a. isLive marks a && hasLarger f k marks j a) 1 (nodeCount f k) h in
       let l = larger f k r marks j small (ltb-true 0 large (and-right (isLive marks small) (ltb 0 large) (g .passes))) in
       record {
+        order = l .above;
         smaller = record { first = h; last = omega (arith, g .below) };
         larger = record { first = omega (arith, l .above); last = l .last };
         smaller-live = and-left (isLive marks small) (ltb 0 large) (g .passes);

@@ -1,20 +1,23 @@
 -- How far the search for a round's next repair has come: the walk over the nodes, and at a missing node the search for its pair.
 -- Assumes nothing.
 use mathlib.Core.Path.{_≡_, refl, sym, ap, _∙_}
-use mathlib.Core.Bool.{Bool, true, false, cond}
+use mathlib.Core.Bool.{Bool, true, false, cond, false≢true}
 use mathlib.Core.List.{List}
 use Prim.Native.Nat.{ℕ, _+_, _≤_, _<_}
 use native.Mathlib.Omega.{arith}
 use borrow.Author.Tests.{lt-ltb, le-ltb, ne-eqb}
 use lib.Dec.{eqb, ltb}
 use lib.ListN.{length, getD, drop}
+use Rattle.base.proofs.Tests.{is-false}
 use Rattle.families.specs.declared.Family.{Family}
 use Rattle.families.specs.Families.{IsNode, nodeCount}
 use Rattle.lists.specs.Lists.{isLive, liveNodes}
 use Rattle.lists.proofs.Laws.{outside-none, live-nodes-inside}
 use Rattle.planning.specs.Pairs.{largerNode, smallerNode}
-use Rattle.planning.specs.Search.{RoundBegins, livePartner, nextNode, repairOf}
+use Rattle.planning.specs.Search.{RoundBegins, livePartner, worthTrying, nextNode, repairOf}
 use Rattle.planning.specs.declared.Repair.{Repair}
+use Rattle.planning.specs.Plan.{isRepaired}
+use Rattle.planning.proofs.WorthLaws.{worth-repaired}
 use Rattle.planning.proofs.PairLaws.{firstIn, first-step, first-end, hasPartner, smaller-first, partner-is, pair-of, next-skip, next-is, next-end, live-kept, none-kept, pair-repairs}
 
 -- no node above `after` as far as `node` is repaired
@@ -44,6 +47,15 @@ module _ {f : Family} {k : ℕ} {columns live : List ℕ} {marks : List Bool} {a
     module _ (l : node < nodeCount f k) where
       pub walk-live : isLive marks (node + 1) ≡ true → Walking f k columns live marks after (node + 1)
       walk-live e = record { begins = w .begins; within = omega arith; rest = w .rest ∙ next-skip f k marks node l (live-kept f k marks (node + 1) e) }
+
+      -- a node that a search is not worth making for is not repaired
+      pub walk-skip : {worth : List Bool} → worth ≡ worthTrying f k live → isLive worth (node + 1) ≡ false → Walking f k columns live marks after (node + 1)
+      walk-skip is e =
+          record {
+            begins = w .begins;
+            within = omega arith;
+            rest = w .rest ∙ next-skip f k marks node l (is-false (isRepaired f k marks (node + 1)) (λ t. false≢true (sym e ∙ rw (is, w .begins .nodes) (worth-repaired f k (w .begins .range) marks (node + 1) (walk-node l) t))));
+          }
 
       pub search-none : isLive marks (node + 1) ≡ false → Searching f k live marks (node + 1) 0
       search-none e = record { missing = e; within = omega arith; rest = rw (w .begins .nodes) (smaller-first f k (w .begins .range) marks (node + 1) (walk-node l)) }

@@ -1,15 +1,9 @@
 // A plan carried out on a nodes buffer.
+use crate::wide;
 ghost use mathlib.Core.Path.{_≡_};
 ghost use Prim.Native.Nat.{ℕ, _*_, _≤_};
 ghost use lib.ListN.{length};
 ghost use Rattle.planning.specs.Made.{AllIn, stepsIn, nodesMade};
-
-// A byte as a number.
-fn wide(byte: u8) -> usize
-    ensures { λ r. ⌜ r ≡ byte ⌝ }
-{
-    byte as usize
-}
 
 // The first `count` steps of a plan, four bytes each, made one after the other.
 pub fn carry_out(len: usize, steps: &[u8], count: usize, nodes: &mut [u8])

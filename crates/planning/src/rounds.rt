@@ -2,6 +2,7 @@
 use crate::Planned;
 use crate::Repair;
 use crate::search::next_repair;
+use crate::worth::worth_trying;
 use families::Family;
 ghost use mathlib.Core.Path.{_≡_};
 ghost use mathlib.Core.List.{[], _∷_, _++_};
@@ -46,10 +47,11 @@ fn plan_round(
     let n = families::node_count(family, k);
     let all = lists::list_live(marks, n);
     let count = lists::count_live(marks, n);
+    let worth = worth_trying(family, k, columns, &all[..count]);
     let mut steps: usize = 0;
     let mut node: usize = 0;
     loop {
-        let repair = next_repair(family, k, columns, &all[..count], marks, node);
+        let repair = next_repair(family, k, columns, &all[..count], marks, &worth, node);
         if repair.node == 0 {
             return steps;
         }

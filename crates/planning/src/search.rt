@@ -1,21 +1,15 @@
 // The search for the pair that repairs a node.
 use crate::Repair;
+use crate::wide;
 use families::Family;
 ghost use mathlib.Core.Path.{_≡_};
 ghost use Prim.Native.Nat.{ℕ, _≤_};
 ghost use Rattle.families.specs.Families.{KInRange, IsNode, nodeCount, columnTable};
-ghost use Rattle.planning.specs.Search.{RoundBegins, livePartner, nextNode, repairOf};
+ghost use Rattle.planning.specs.Search.{RoundBegins, livePartner, worthTrying, nextNode, repairOf};
 
 struct Pair {
     smaller: usize,
     larger: usize,
-}
-
-// A byte as a number.
-fn wide(byte: u8) -> usize
-    ensures { λ r. ⌜ r ≡ byte ⌝ }
-{
-    byte as usize
 }
 
 // The node related to a and j, where it is live, or 0. Whether it is above a need not be asked: first members go upward, and a
@@ -40,16 +34,18 @@ fn live_partner(
 }
 
 // The first node above `after` that a round repairs, with its pair. The marks are those when the round began, and `live` lists
-// their live nodes: the first members, upward.
+// their live nodes: the first members, upward. `worth` has the nodes that a search is worth making for.
 pub fn next_repair(
     family: Family,
     k: usize,
     columns: &[usize; 256],
     live: &[u8],
     marks: &[bool; 256],
+    worth: &[bool; 256],
     after: usize,
 ) -> Repair
     requires { ⌜ RoundBegins family k (now columns) (now live) (now marks) ⌝ }
+    requires { ⌜ now worth ≡ worthTrying family k (now live) ⌝ }
     requires { ⌜ after ≤ nodeCount family k ⌝ }
     ensures { λ r. ⌜ r ≡ repairOf family k (now (marks .entry)) (nextNode family k (now (marks .entry)) after) ⌝ }
 {
@@ -58,6 +54,9 @@ pub fn next_repair(
     'walk: while node < n {
         node += 1;
         if marks[node] {
+            continue 'walk;
+        }
+        if !worth[node] {
             continue 'walk;
         }
         let mut i: usize = 0;

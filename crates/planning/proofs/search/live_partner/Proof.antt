@@ -7,7 +7,7 @@ use borrow.Author.Tests.{not-true, not-false}
 use borrow.Author.Needs.{needs}
 use Rattle.families.proofs.Laws.{few, column}
 use Rattle.families.proofs.TableLaws.{table-at}
-use Rattle.planning.proofs.PairLaws.{partner, partner-at, partner-few, live-none, live-is}
+use Rattle.planning.proofs.PairLaws.{partner, partner-at, third-few, live-none, live-is}
 use Rattle.planning.proofs.search.live_partner.Statement.{statement}
 use Rattle.planning.proofs.search.live_partner.Tie as tie
 
@@ -32,7 +32,7 @@ is-partner c =
     partner-at _ _ (p .0 .0) (now (c .before .before .before .args .marks)) _ _ (p .0 .1) (p .0 .2) (p .1) (c .third-node .ensures)
 
 element-copy-out-if1 : tie.Need-element-copy-out-if1
-element-copy-out-if1 c = let p = c .before .before .before .pre in omega (arith, is-partner c, partner-few _ _ (p .0 .0) (now (c .before .before .before .args .marks)) (c .before .before .before .args .j) (c .before .before .before .args .a))
+element-copy-out-if1 c = let p = c .before .before .before .pre in omega (arith, is-partner c, third-few _ _ (p .0 .0) (c .before .before .before .args .j) (c .before .before .before .args .a))
 
 returns : tie.Need-returns
 returns c =
