@@ -172,7 +172,7 @@ either P true x later y n = y refl
 either P false x later y n = n refl
 
 module _ (marks : List Bool) where
-  live-few : (j m : ℕ) → length (liveFrom marks j m) ≤ m
+  pub live-few : (j m : ℕ) → length (liveFrom marks j m) ≤ m
   unfolding liveFrom
   live-few j zero = omega arith
   live-few j (suc m) =

@@ -18,13 +18,14 @@ use Rattle.families.specs.declared.Family.{Family}
 use Rattle.families.specs.Families.{KInRange, IsNode, nodeCount, firstFrom}
 use Rattle.families.proofs.First.{found}
 use Rattle.families.proofs.Laws.{few}
-use Rattle.lists.specs.Lists.{isLive, setLive}
+use Rattle.lists.specs.Lists.{isLive, setLive, liveFrom}
+use Rattle.lists.proofs.Laws.{live-few}
 use Rattle.lists.proofs.MarkLaws.{live-append}
 use Rattle.planning.specs.Pairs.{smallerNode, largerNode}
 use Rattle.planning.specs.Plan.{Step, isRepaired, stepOf, stepsFrom, roundSteps, repairedNodes, marksAfter, stepBytes}
 use Rattle.planning.specs.Search.{nextNode, repairOf}
 use Rattle.planning.specs.declared.Repair.{Repair}
-use Rattle.planning.proofs.PairLaws.{PairOf, pair-of}
+use Rattle.planning.proofs.PairLaws.{PairOf, pair-of, live-kept}
 
 -- ---- lists of steps
 
@@ -40,6 +41,20 @@ length-bytes (x ∷ s) = omega (arith, length-bytes s)
 
 pub marks-append : (marks : List Bool) (s t : List Step) → marksAfter marks (s ++ t) ≡ marksAfter (marksAfter marks s) t
 marks-append marks s t = ap (setLive marks) (map-append (λ (step : Step). step .node) s t) ∙ live-append marks (repairedNodes s) (repairedNodes t)
+
+-- ---- a round where every node is live
+
+pub all-live : (f : Family) (k : ℕ) (marks : List Bool) (r j m : ℕ) → m ≤ length (liveFrom marks j m) → stepsFrom f k marks r j m ≡ []
+unfolding stepsFrom liveFrom
+all-live f k marks r j zero h = refl
+all-live f k marks r j (suc m) h = go (isLive marks j) refl h (λ g. all-live f k marks r (suc j) m g)
+  where
+    rest : List ℕ
+    rest = liveFrom marks (suc j) m
+
+    go : (b : Bool) → isLive marks j ≡ b → suc m ≤ length (cond b (j ∷ rest) rest) → (m ≤ length rest → stepsFrom f k marks r (suc j) m ≡ []) → stepsFrom f k marks r j (suc m) ≡ []
+    go true e g later = rw (live-kept f k marks j e) (later (omega arith))
+    go false e g later = absurd (omega (arith, live-few marks (suc j) m))
 
 -- ---- the next repair
 

@@ -45,8 +45,11 @@ fn plan_round(
     ensures { λ r. ⌜ now (next .exit) ≡ marksAfter (now (next .entry)) (roundSteps family k (now (marks .entry)) round) ⌝ }
 {
     let n = families::node_count(family, k);
-    let all = lists::list_live(marks, n);
     let count = lists::count_live(marks, n);
+    if count == n {
+        return 0;
+    }
+    let all = lists::list_live(marks, n);
     let worth = worth_trying(family, k, columns, &all[..count]);
     let mut steps: usize = 0;
     let mut node: usize = 0;
