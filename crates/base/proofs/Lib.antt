@@ -1,3 +1,4 @@
 pub mod Xor
 pub mod LowestBit
 pub mod Tests
+pub mod Fill

@@ -1,7 +1,7 @@
 -- Parts of a list: a list filled from the front, and a part that becomes the XOR of two others chunk by chunk.
 -- Assumes nothing.
 use mathlib.Core.Path.{_≡_, refl, sym, ap, _∙_}
-use mathlib.Core.List.{List, [], _∷_, _++_, append-assoc, append-nil}
+use mathlib.Core.List.{List, [], _∷_, _++_, append-assoc}
 use mathlib.Core.Logic.{_⊎_, inl, inr, ⊎-elim}
 use Prim.Native.Nat.{ℕ, zero, suc, _+_, _-_, _*_, _≤_, _<_}
 use native.Mathlib.Nat.{add-assoc}
@@ -9,9 +9,10 @@ use native.Mathlib.Numerals.{add-one}
 use native.Mathlib.Decide.{decLt}
 use native.Mathlib.Omega.{arith}
 use lib.Bits.{bitXor}
-use lib.ListN.{length, take, drop, getD, set, length-take, length-drop, length-append, take-append-drop, drop-of-length-le}
+use lib.ListN.{length, take, drop, getD, set, length-take, length-drop, length-append, take-append-drop}
 use lib.Seq.{take-all, take-at, drop-at, take-take, take-add, take-append-le, take-append-add, drop-drop, drop-cons, drop-append-le, drop-append-add, length-take-le, set-split}
 use borrow.Rule.Slice.PartMut.{midOf, putMid, same-len-mid}
+use Rattle.base.proofs.Fill.{filled}
 use Rattle.blocks.specs.Blocks.{xorBytes, blockOf, withBlock, InBuffer, BlocksIn}
 use Rattle.blocks.proofs.BlockLaws.{places}
 use Rattle.blocks.proofs.XorBytes.{length-xorBytes, xorBytes-comm}
@@ -57,10 +58,7 @@ put-beside s u v at m n h e =
     let l : length (f ++ u) ≡ at + m = simp (length-append, length-take) (omega arith) in
     rw (drop-drop m at s, ← append-assoc f u (drop (at + m) s), put-next (f ++ u) v s (at + m) n l, drop-drop (m + n) at s, append-assoc f u v, append-assoc f (u ++ v), add-assoc at m n)
 
--- ---- t filled from the front with r: its first i elements are those of r
-
-abbrev pub filled : List ℕ → List ℕ → ℕ → List ℕ
-filled r t i = take i r ++ drop i t
+-- ---- a list filled from the front
 
 -- one part more, which may overlap what is done
 pub fill-part : (r t : List ℕ) (i at n : ℕ) → at ≤ i → i ≤ at + n → i ≤ length r → putMid at n (filled r t i) (midOf at n r) ≡ filled r t (at + n)
@@ -74,15 +72,6 @@ set-byte s i v h = set-split s i v h ∙ rw (drop-drop 1 i s, add-one)
 
 mid-byte : (s : List ℕ) (i : ℕ) → i < length s → midOf i 1 s ≡ getD s i 0 ∷ []
 mid-byte s i h = rw (drop-cons s i 0 h)
-
-pub fill-more : (r t : List ℕ) (i v : ℕ) → i < length r → i < length t → v ≡ getD r i 0 → set (filled r t i) i v ≡ filled r t (i + 1)
-fill-more r t i v h k e =
-    set-byte (filled r t i) i v (simp (length-append, length-take, length-drop) (omega arith))
-    ∙ ap (putMid i 1 (filled r t i)) (ap (λ (w : ℕ). w ∷ []) e ∙ sym (mid-byte r i h))
-    ∙ fill-part r t i i 1 (omega arith) (omega arith) (omega arith)
-
-pub fill-done : (r t : List ℕ) (i : ℕ) → length r ≡ length t → length t ≤ i → filled r t i ≡ r
-fill-done r t i e h = rw (take-all i r (omega arith), drop-of-length-le t h, append-nil)
 
 -- ---- a part that becomes the XOR of two others, which lie apart from it
 

@@ -175,6 +175,10 @@ accepted-box bytes e =
       bodies-size = length-drop (8 + heldIn bytes) bytes ∙ omega arith;
     }
 
+-- the first 8 bytes and the names are there
+pub has-names : (bytes : List ℕ) → firstMet (boxChecks bytes) ≡ 0 → (8 ≤ length bytes) × (8 + heldIn bytes ≤ length bytes)
+has-names bytes e = let b = accepted-box bytes e in (omega (arith, b .size), omega (arith, b .size))
+
 -- a body that is not refused ends by the end of the box
 pub body-within : (bytes : List ℕ) (j : ℕ) → firstMet (bodyChecks bytes j) ≡ 0 → bodyStart bytes j + lengthIn bytes ≤ length bytes
 body-within bytes j e =

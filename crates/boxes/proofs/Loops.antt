@@ -7,8 +7,9 @@ use native.Mathlib.Nat.{zero-mul, add-mul, mul-le-mul-right}
 use native.Mathlib.Omega.{arith}
 use lib.ListN.{length, getD, drop, length-append, drop-of-length-le}
 use borrow.Rule.Slice.PartMut.{midOf, putMid}
+use Rattle.base.proofs.Fill.{filled, fill-done}
 use Rattle.blocks.specs.Blocks.{BlocksIn}
-use Rattle.blocks.proofs.PartLaws.{filled, fill-part, fill-done, put-next, length-copied}
+use Rattle.blocks.proofs.PartLaws.{fill-part, put-next, length-copied}
 use Rattle.boxes.specs.Box.{boxLength}
 use Rattle.boxes.specs.Bodies.{headerOf, bodiesOf, boxOf, withBodies}
 use Rattle.boxes.specs.Places.{ListIn, Run}

@@ -1,20 +1,18 @@
 -- What the checks of a step say, and what a step gives.
 -- Assumes nothing.
-use mathlib.Core.Path.{_≡_, refl, sym, ap, _∙_}
-use mathlib.Core.Bool.{Bool, true, false, cond, not, _||_}
-use mathlib.Core.List.{List, [], _∷_, _++_}
-use Prim.Native.Nat.{ℕ, _*_, _≤_}
+use mathlib.Core.Path.{_≡_, refl, ap, _∙_}
+use mathlib.Core.Bool.{false, not}
+use mathlib.Core.List.{List, [], _∷_}
+use Prim.Native.Nat.{ℕ, _*_}
 use native.Mathlib.Omega.{arith}
 use borrow.Author.Tests.{eqb-true, eq-eqb, ne-eqb, not-false}
-use lib.Dec.{eqb}
 use lib.ListN.{length}
 use Rattle.base.proofs.Tests.{or-neither}
 use Rattle.families.specs.Families.{familyOf, KInRange, IsNode, areRelated}
 use Rattle.checks.specs.Checks.{Check, _gives_, firstMet}
-use Rattle.checks.specs.Claims.{NoneMet}
 use Rattle.checks.specs.Parameters.{outside}
 use Rattle.checks.proofs.Laws.{inside, outside-no, accepted, none-append, some-append}
-use Rattle.lists.specs.Lists.{someOutside, isLive, setLive, someMissing}
+use Rattle.lists.specs.Lists.{someOutside, isLive, someMissing}
 use Rattle.lists.proofs.Laws.{outside-none}
 use Rattle.boxes.proofs.Answers.{none-zero}
 use Rattle.planning.specs.Plan.{Step}
@@ -23,68 +21,29 @@ use Rattle.planning.specs.Claims.{CanMake}
 use Rattle.planning.proofs.CarryLaws.{step-in}
 use Rattle.repair.specs.declared.Session.{Session}
 use Rattle.repair.specs.declared.Stepped.{Stepped}
-use Rattle.repair.specs.Session.{nodesOf, noStart, nodesChecks}
+use Rattle.repair.specs.Session.{nodesOf, nodesChecks}
 use Rattle.repair.specs.Step.{stepChecks, withLive, stepped, nodesStepped}
 use Rattle.repair.proofs.StartLaws.{known, nodes-none, Sized}
 
-module _ (s : Session) (nodes : List ℕ) (j a b : ℕ) where
-  abbrev outsideOf : ℕ → Bool
-  outsideOf i = outside 1 (nodesOf s) i
+-- a number that the test lets through is a node's
+pub node-of : (s : Session) (i : ℕ) → outside 1 (nodesOf s) i ≡ false → IsNode (familyOf (s .family)) (s .k) i
+node-of s i h = let p = inside 1 (nodesOf s) i h in record { first = p .0; last = p .1 }
 
+module _ (s : Session) (nodes : List ℕ) (j a b : ℕ) where
   pub step-stops : (firstMet (nodesChecks s (length nodes)) ≡ 0 → ⊥) → firstMet (stepChecks s nodes j a b) ≡ firstMet (nodesChecks s (length nodes))
   unfolding stepChecks
   step-stops h = some-append (nodesChecks s (length nodes)) _ h
 
   -- 13 and 6 are not met
-  module _ (e : firstMet (nodesChecks s (length nodes)) ≡ 0) where
-    pub step-rest : firstMet (stepChecks s nodes j a b) ≡ firstMet (
-        (someOutside (nodesOf s) (j ∷ a ∷ b ∷ []) gives 4)
-        ∷ (not (areRelated (familyOf (s .family)) (s .k) a b j) gives 10)
-        ∷ (isLive (s .live) j gives 11)
-        ∷ (someMissing (s .live) (a ∷ b ∷ []) gives 12)
-        ∷ [])
-    unfolding stepChecks
-    step-rest = none-append (nodesChecks s (length nodes)) _ (nodes-none s (length nodes) e)
-
-    pub step-4-node : outsideOf j ≡ true → firstMet (stepChecks s nodes j a b) ≡ 4
-    unfolding firstMet someOutside
-    step-4-node o = step-rest ∙ rw o
-
-    module _ (oj : outsideOf j ≡ false) where
-      pub step-4-first : outsideOf a ≡ true → firstMet (stepChecks s nodes j a b) ≡ 4
-      unfolding firstMet someOutside
-      step-4-first o = step-rest ∙ rw (oj, o)
-
-      module _ (oa : outsideOf a ≡ false) where
-        pub step-4-second : outsideOf b ≡ true → firstMet (stepChecks s nodes j a b) ≡ 4
-        unfolding firstMet someOutside
-        step-4-second o = step-rest ∙ rw (oj, oa, o)
-
-        module _ (ob : outsideOf b ≡ false) where
-          pub step-10 : areRelated (familyOf (s .family)) (s .k) a b j ≡ false → firstMet (stepChecks s nodes j a b) ≡ 10
-          unfolding firstMet someOutside
-          step-10 r = step-rest ∙ rw (oj, oa, ob, r)
-
-          module _ (r : areRelated (familyOf (s .family)) (s .k) a b j ≡ true) where
-            pub step-11 : isLive (s .live) j ≡ true → firstMet (stepChecks s nodes j a b) ≡ 11
-            unfolding firstMet someOutside
-            step-11 l = step-rest ∙ rw (oj, oa, ob, r, l)
-
-            module _ (lj : isLive (s .live) j ≡ false) where
-              pub step-12-first : isLive (s .live) a ≡ false → firstMet (stepChecks s nodes j a b) ≡ 12
-              unfolding firstMet someOutside someMissing
-              step-12-first l = step-rest ∙ rw (oj, oa, ob, r, lj, l)
-
-              pub step-12-second : isLive (s .live) a ≡ true → isLive (s .live) b ≡ false → firstMet (stepChecks s nodes j a b) ≡ 12
-              unfolding firstMet someOutside someMissing
-              step-12-second l m = step-rest ∙ rw (oj, oa, ob, r, lj, l, m)
-
-              pub step-0 : isLive (s .live) a ≡ true → isLive (s .live) b ≡ true → firstMet (stepChecks s nodes j a b) ≡ 0
-              unfolding firstMet someOutside someMissing
-              step-0 l m = step-rest ∙ rw (oj, oa, ob, r, lj, l, m)
-
-  pub node-of : (i : ℕ) → outsideOf i ≡ false → IsNode (familyOf (s .family)) (s .k) i
-  node-of i h = let p = inside 1 (nodesOf s) i h in record { first = p .0; last = p .1 }
+  pub step-rest : firstMet (nodesChecks s (length nodes)) ≡ 0
+      → firstMet (stepChecks s nodes j a b) ≡ firstMet (
+      (someOutside (nodesOf s) (j ∷ a ∷ b ∷ []) gives 4)
+      ∷ (not (areRelated (familyOf (s .family)) (s .k) a b j) gives 10)
+      ∷ (isLive (s .live) j gives 11)
+      ∷ (someMissing (s .live) (a ∷ b ∷ []) gives 12)
+      ∷ [])
+  unfolding stepChecks
+  step-rest e = none-append (nodesChecks s (length nodes)) _ (nodes-none s (length nodes) e)
 
   -- ---- what a step gives
 

@@ -5,7 +5,7 @@ use Prim.Native.Nat.{_-_}
 use native.Mathlib.Omega.{arith}
 use borrow.Author.Needs.{needs}
 use lib.ListN.{length}
-use Rattle.blocks.proofs.PartLaws.{filled, fill-more, fill-done}
+use Rattle.base.proofs.Fill.{filled, fill-more, fill-done}
 use Rattle.blocks.proofs.put_chunk.Statement.{statement}
 use Rattle.blocks.proofs.put_chunk.Tie as tie
 
@@ -19,7 +19,7 @@ loop-again : tie.Need-loop-again Inv-loop μ-loop
 loop-again c =
     let l = c .before .loop in
     let g = c .before .before .args in
-    (search needs, rw (l .inv .1) (fill-more (g .t2) (g .dst .now) (l .i) _ (omega arith) (omega arith) refl))
+    (search needs, rw (l .inv .1) (fill-more (g .t2) (g .dst .now) (l .i) 0 (omega arith) (omega arith) refl))
 
 returns : tie.Need-returns Inv-loop μ-loop
 returns c =

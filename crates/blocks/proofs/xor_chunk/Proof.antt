@@ -6,7 +6,7 @@ use native.Mathlib.Omega.{arith}
 use borrow.Author.Needs.{needs}
 use lib.ListN.{length}
 use Rattle.blocks.specs.Blocks.{xorBytes}
-use Rattle.blocks.proofs.PartLaws.{filled, fill-more, fill-done}
+use Rattle.base.proofs.Fill.{filled, fill-more, fill-done}
 use Rattle.blocks.proofs.XorBytes.{length-xorBytes, getD-xorBytes}
 use Rattle.blocks.proofs.xor_chunk.Statement.{statement}
 use Rattle.blocks.proofs.xor_chunk.Tie as tie
@@ -22,7 +22,7 @@ loop-again c =
     let l = c .before .before .before .loop in
     let g = c .before .before .before .before .args in
     let h = length-xorBytes (g .a .now) (g .b .now) (omega arith) in
-    (search needs, rw (l .inv .1) (fill-more (xorBytes (g .a .now) (g .b .now)) _ (l .i) _ (omega arith) (omega arith) (sym (getD-xorBytes (g .a .now) (g .b .now) (l .i) (omega arith) (omega arith)))))
+    (search needs, rw (l .inv .1) (fill-more (xorBytes (g .a .now) (g .b .now)) _ (l .i) 0 (omega arith) (omega arith) (sym (getD-xorBytes (g .a .now) (g .b .now) (l .i) (omega arith) (omega arith)))))
 
 returns : tie.Need-returns Inv-loop μ-loop
 returns c =

@@ -5,9 +5,6 @@ use borrow.Author.Needs.{needs}
 use Rattle.boxes.proofs.names.Statement.{statement}
 use Rattle.boxes.proofs.names.Tie as tie
 
-returns : tie.Need-returns
-returns c = rw (add-sub-cancel-left 8 (c .before .held .result), c .before .held .ensures)
-
 pub names-spec : {M : Type 1} → statement M
 names-spec =
     tie.close
@@ -17,4 +14,4 @@ names-spec =
     (λ c. search needs)
     (λ c. search needs)
     (λ c. search needs)
-    returns)
+    (λ c. rw (add-sub-cancel-left 8 (c .before .held .result), c .before .held .ensures)))

@@ -14,9 +14,6 @@ Inv-loop len nodes₀ list bodies i₀ nodes i = Reading len nodes₀ list bodie
 abbrev μ-loop : tie.MeasureT-loop
 μ-loop len nodes₀ list bodies i₀ nodes i = length list - i
 
-loop-holds : tie.Need-loop-holds Inv-loop μ-loop
-loop-holds c = let p = c .before .before .before .pre in read-none (p .0) (p .1)
-
 copy-blocks-requires : tie.Need-copy-blocks-requires Inv-loop μ-loop
 copy-blocks-requires c κs =
     let b = c .before .before .before in
@@ -29,16 +26,13 @@ loop-again c =
     let b = c .before .before .before .before .before .before in
     rw (c .before .before .copy-blocks .ensures, c .before .before .before .wide .ensures) (read-more (b .before .before .loop .inv) (b .run-length .ensures))
 
-returns : tie.Need-returns Inv-loop μ-loop
-returns c = read-done (c .before .loop .inv) (omega arith)
-
 pub read-bodies-spec : {M : Type 1} → statement M
 read-bodies-spec =
     tie.close
     (tie.spec
     Inv-loop
     μ-loop
-    loop-holds
+    (λ c. let p = c .before .before .before .pre in read-none (p .0) (p .1))
     (λ c κs. search needs)
     (λ c. search needs)
     (λ c. search needs)
@@ -48,4 +42,4 @@ read-bodies-spec =
     (λ c. search needs)
     loop-again
     (λ c. c .before .loop .inv .kept)
-    returns)
+    (λ c. read-done (c .before .loop .inv) (omega arith)))

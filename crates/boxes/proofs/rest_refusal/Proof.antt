@@ -1,7 +1,7 @@
 -- `boxes::rest_refusal` meets its contract: its tests are the list's conditions, in the list's order.
 -- Assumes nothing.
 use mathlib.Core.Path.{_≡_, sym, ap₂, _∙_}
-use mathlib.Core.Bool.{true, false}
+use mathlib.Core.Bool.{true}
 use Prim.Native.Nat.{_+_, _*_, _<_}
 use native.Mathlib.Nat.{mul-le-mul}
 use native.Mathlib.Omega.{arith}
@@ -24,7 +24,7 @@ small c =
     let h = few c in
     omega (arith, mul-le-mul {n₁ = c .before .held .result} {m₁ = c .block-length .result} {n₂ = 255} {m₂ = 65535} (omega arith) (omega arith))
 
-length-is : (c : tie.After-block-length) → 8 + c .before .held .result + c .before .held .result * c .block-length .result ≡ boxLength (heldIn (c .before .before .before .before .before .args .bytes .now)) (lengthIn (c .before .before .before .before .before .args .bytes .now))
+length-is : (c : tie.After-block-length) → let b = c .before .before .before .before .before .args .bytes .now in 8 + c .before .held .result + c .before .held .result * c .block-length .result ≡ boxLength (heldIn b) (lengthIn b)
 length-is c = ap₂ boxLength (c .before .held .ensures) (c .block-length .ensures)
 
 -- 8 is passed
@@ -34,31 +34,17 @@ passed c = sym (c .before .zeros .ensures) ∙ not-false _ (c .if1 .left)
 returns : tie.Need-returns
 returns c =
     let s = c .before .before .before in
-    let z : zerosIn (s .args .bytes .now) ≡ false = sym (c .before .zeros .ensures) ∙ not-true _ (c .if1 .taken) in
-    sym (by-zeros (s .args .bytes .now) (s .pre .0) (s .pre .1) z)
+    sym (by-zeros _ (s .pre .0) (s .pre .1) (sym (c .before .zeros .ensures) ∙ not-true _ (c .if1 .taken)))
 
 returns-2 : tie.Need-returns-2
 returns-2 c =
     let s = c .before .before .before .before .before .before in
-    let z = passed (c .before .before .before) in
-    sym (by-length (s .args .bytes .now) (s .pre .0) (s .pre .1) z (rw (length-is (c .before)) at (c .if2 .taken)))
-
-node-count-requires : tie.Need-node-count-requires
-node-count-requires c κs =
-    let s = c .before .before .before .before .before .before in
-    (s .pre .0, in-range _ _ _ (s .pre .1) .blocks)
-
-names-requires : tie.Need-names-requires
-names-requires c κs =
-    let s = c .before .before .before .before .before .before .before in
-    (s .pre .0, omega (arith, length-is (c .before .before), c .before .if2 .left))
+    sym (by-length _ (s .pre .0) (s .pre .1) (passed (c .before .before .before)) (rw (length-is (c .before)) at (c .if2 .taken)))
 
 returns-3 : tie.Need-returns-3
 returns-3 c =
     let s = c .before .before .before .before .before .before .before .before .before in
-    let z = passed (c .before .before .before .before .before .before) in
-    c .names-refusal .ensures
-    ∙ rw (c .before .before .node-count .ensures, c .before .names .ensures) (sym (by-names (s .args .bytes .now) (s .pre .0) (s .pre .1) z (c .before .before .before .if2 .left ∙ length-is (c .before .before .before .before))))
+    (rw (c .before .before .node-count .ensures, c .before .names .ensures) at (c .names-refusal .ensures)) ∙ sym (by-names _ (s .pre .0) (s .pre .1) (passed (c .before .before .before .before .before .before)) (c .before .before .before .if2 .left ∙ length-is (c .before .before .before .before)))
 
 pub rest-refusal-spec : {M : Type 1} → statement M
 rest-refusal-spec =
@@ -72,7 +58,7 @@ rest-refusal-spec =
     (λ c. omega (arith, small c))
     (λ c. omega (arith, few c, small c))
     returns-2
-    node-count-requires
-    names-requires
+    (λ c κs. let p = c .before .before .before .before .before .before .pre in (p .0, in-range _ _ _ (p .1) .blocks))
+    (λ c κs. (c .before .before .before .before .before .before .before .pre .0, omega (arith, length-is (c .before .before), c .before .if2 .left)))
     (λ c κs. search needs)
     returns-3)

@@ -14,9 +14,6 @@ Inv-loop len list nodes out₀ count i₀ out i = Writing len list nodes out₀ 
 abbrev μ-loop : tie.MeasureT-loop
 μ-loop len list nodes out₀ count i₀ out i = length list - i
 
-loop-holds : tie.Need-loop-holds Inv-loop μ-loop
-loop-holds c = let p = c .before .before .before .pre in write-none (p .0) (p .1)
-
 copy-blocks-requires : tie.Need-copy-blocks-requires Inv-loop μ-loop
 copy-blocks-requires c κs =
     let b = c .before .before .before in
@@ -29,16 +26,13 @@ loop-again c =
     let b = c .before .before .before .before .before .before in
     rw (c .before .before .copy-blocks .ensures, c .before .before .before .before .wide .ensures) (write-more (b .before .before .loop .inv) (b .run-length .ensures))
 
-returns : tie.Need-returns Inv-loop μ-loop
-returns c = write-done (c .before .loop .inv) (omega arith)
-
 pub write-bodies-spec : {M : Type 1} → statement M
 write-bodies-spec =
     tie.close
     (tie.spec
     Inv-loop
     μ-loop
-    loop-holds
+    (λ c. let p = c .before .before .before .pre in write-none (p .0) (p .1))
     (λ c κs. search needs)
     (λ c. search needs)
     (λ c κs. search needs)
@@ -48,4 +42,4 @@ write-bodies-spec =
     (λ c. search needs)
     loop-again
     (λ c. c .before .loop .inv .kept)
-    returns)
+    (λ c. write-done (c .before .loop .inv) (omega arith)))

@@ -1,10 +1,7 @@
--- `mogtriz::mogtriz_column` meets its contract.
+-- `mogtriz::mogtriz_column` meets its contract: where the number is a node's, the family and k are in range.
 -- Assumes nothing.
-use mathlib.Core.Path.{_≡_, sym, _∙_, ap, subst}
-use Prim.Native.Nat.{ℕ}
+use mathlib.Core.Path.{sym, _∙_}
 use borrow.Author.Tests.{not-true, not-false}
-use Rattle.families.specs.declared.Family.{Family}
-use Rattle.families.specs.Families.{KInRange, IsNode, columnOf}
 use Rattle.mogtriz.specs.Exports.{columnOr0}
 use Rattle.mogtriz.proofs.Laws.{node}
 use borrow.Author.Needs.{needs}
@@ -13,19 +10,16 @@ use Rattle.mogtriz.proofs.mogtriz_column.Tie as tie
 
 returns : tie.Need-returns
 unfolding columnOr0
-returns c = simp (sym (c .before .is-node .ensures) ∙ not-true _ (c .if1 .taken))
+returns c = rw (sym (c .before .is-node .ensures) ∙ not-true _ (c .if1 .taken))
 
 column-requires : tie.Need-column-requires
 column-requires c κs =
-    let g = c .before .before .before .args in
-    let n = node (g .family) (g .k) (g .node) (sym (c .before .before .is-node .ensures) ∙ not-false _ (c .before .if1 .left)) in
-    subst (λ (f : Family). KInRange f (g .k) × IsNode f (g .k) (g .node)) (sym (c .family-of .ensures)) (n .range, n .is-node)
+    let n = node _ _ _ (sym (c .before .before .is-node .ensures) ∙ not-false _ (c .before .if1 .left)) in
+    rw (c .family-of .ensures) (n .range, n .is-node)
 
 returns-2 : tie.Need-returns-2
 unfolding columnOr0
-returns-2 c =
-    let g = c .before .before .before .before .args in
-    rw (sym (c .before .before .before .is-node .ensures) ∙ not-false _ (c .before .before .if1 .left)) (c .column .ensures ∙ ap (λ (f : Family). columnOf f (g .k) (g .node)) (c .before .family-of .ensures))
+returns-2 c = rw (sym (c .before .before .before .is-node .ensures) ∙ not-false _ (c .before .before .if1 .left)) (rw (c .before .family-of .ensures) at (c .column .ensures))
 
 pub mogtriz-column-spec : {M : Type 1} → statement M
 mogtriz-column-spec =

@@ -1,11 +1,9 @@
--- `mogtriz::mogtriz_related` meets its contract.
+-- `mogtriz::mogtriz_related` meets its contract: where the three numbers are nodes', the family and k are in range.
 -- Assumes nothing.
-use mathlib.Core.Path.{_≡_, sym, _∙_, ap, subst}
+use mathlib.Core.Path.{_≡_, sym, _∙_}
 use mathlib.Core.Bool.{true}
-use Prim.Native.Nat.{ℕ}
 use borrow.Author.Tests.{not-true, not-false}
-use Rattle.families.specs.declared.Family.{Family}
-use Rattle.families.specs.Families.{KInRange, IsNode, familyOf, areRelated}
+use Rattle.families.specs.Families.{familyOf, areRelated}
 use Rattle.mogtriz.specs.Exports.{isNode, relatedOr0}
 use Rattle.mogtriz.proofs.Laws.{node}
 use borrow.Author.Needs.{needs}
@@ -13,17 +11,14 @@ use Rattle.mogtriz.proofs.mogtriz_related.Statement.{statement}
 use Rattle.mogtriz.proofs.mogtriz_related.Tie as tie
 
 -- two of the numbers are nodes, and then all three
-two : (c : tie.Else2) → (isNode (c .before .before .before .before .args .family) (c .before .before .before .before .args .k) (c .before .before .before .before .args .a) ≡ true) × (isNode (c .before .before .before .before .args .family) (c .before .before .before .before .args .k) (c .before .before .before .before .args .b) ≡ true)
+two : (c : tie.Else2) → let g = c .before .before .before .before .args in (isNode (g .family) (g .k) (g .a) ≡ true) × (isNode (g .family) (g .k) (g .b) ≡ true)
 two c = (sym (c .before .before .before .is-node .ensures) ∙ not-false _ (c .before .before .if1 .left), sym (c .before .is-node2 .ensures) ∙ not-false _ (c .if2 .left))
 
-three : (c : tie.Else3)
-    → (isNode (c .before .before .before .before .before .before .args .family) (c .before .before .before .before .before .before .args .k) (c .before .before .before .before .before .before .args .a) ≡ true)
-    × (isNode (c .before .before .before .before .before .before .args .family) (c .before .before .before .before .before .before .args .k) (c .before .before .before .before .before .before .args .b) ≡ true)
-    × (isNode (c .before .before .before .before .before .before .args .family) (c .before .before .before .before .before .before .args .k) (c .before .before .before .before .before .before .args .c) ≡ true)
+three : (c : tie.Else3) → let g = c .before .before .before .before .before .before .args in (isNode (g .family) (g .k) (g .a) ≡ true) × (isNode (g .family) (g .k) (g .b) ≡ true) × (isNode (g .family) (g .k) (g .c) ≡ true)
 three c = (two (c .before .before) .0, two (c .before .before) .1, sym (c .before .is-node3 .ensures) ∙ not-false _ (c .if3 .left))
 
-is-related : (c : tie.After-related) → areRelated (familyOf (c .before .before .before .before .before .before .before .before .args .family)) (c .before .before .before .before .before .before .before .before .args .k) (c .before .before .before .before .before .before .before .before .args .a) (c .before .before .before .before .before .before .before .before .args .b) (c .before .before .before .before .before .before .before .before .args .c) ≡ c .related .result
-is-related c = sym (c .related .ensures ∙ ap (λ (f : Family). areRelated f (c .before .before .before .before .before .before .before .before .args .k) (c .before .before .before .before .before .before .before .before .args .a) (c .before .before .before .before .before .before .before .before .args .b) (c .before .before .before .before .before .before .before .before .args .c)) (c .before .family-of .ensures))
+is-related : (c : tie.After-related) → let g = c .before .before .before .before .before .before .before .before .args in areRelated (familyOf (g .family)) (g .k) (g .a) (g .b) (g .c) ≡ c .related .result
+is-related c = sym (rw (c .before .family-of .ensures) at (c .related .ensures))
 
 returns : tie.Need-returns
 unfolding relatedOr0
@@ -35,18 +30,13 @@ returns-2 c = simp (sym (c .before .before .before .is-node .ensures) ∙ not-fa
 
 returns-3 : tie.Need-returns-3
 unfolding relatedOr0
-returns-3 c =
-    let n = two (c .before .before) in
-    simp (n .0, n .1, sym (c .before .is-node3 .ensures) ∙ not-true _ (c .if3 .taken))
+returns-3 c = simp (two (c .before .before) .0, two (c .before .before) .1, sym (c .before .is-node3 .ensures) ∙ not-true _ (c .if3 .taken))
 
 related-requires : tie.Need-related-requires
 related-requires c κs =
-    let g = c .before .before .before .before .before .before .before .args in
     let m = three (c .before) in
-    let a = node (g .family) (g .k) (g .a) (m .0) in
-    let b = node (g .family) (g .k) (g .b) (m .1) in
-    let d = node (g .family) (g .k) (g .c) (m .2) in
-    subst (λ (f : Family). KInRange f (g .k) × (IsNode f (g .k) (g .a) × (IsNode f (g .k) (g .b) × IsNode f (g .k) (g .c)))) (sym (c .family-of .ensures)) (a .range, (a .is-node, (b .is-node, d .is-node)))
+    let a = node _ _ _ (m .0) in
+    rw (c .family-of .ensures) (a .range, (a .is-node, (node _ _ _ (m .1) .is-node, node _ _ _ (m .2) .is-node)))
 
 returns-4 : tie.Need-returns-4
 unfolding relatedOr0

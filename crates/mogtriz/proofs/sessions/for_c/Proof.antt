@@ -3,11 +3,5 @@
 use Rattle.mogtriz.proofs.sessions.for_c.Statement.{statement}
 use Rattle.mogtriz.proofs.sessions.for_c.Tie as tie
 
-marked-requires : tie.Need-marked-requires
-marked-requires c κs = tt
-
-returns : tie.Need-returns
-returns c = rw (c .marked .ensures)
-
 pub for-c-spec : {M : Type 1} → statement M
-for-c-spec = tie.close (tie.spec marked-requires returns)
+for-c-spec = tie.close (tie.spec (λ c κs. tt) (λ c. rw (c .marked .ensures)))

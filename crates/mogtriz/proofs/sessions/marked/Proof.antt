@@ -3,11 +3,5 @@
 use Rattle.mogtriz.proofs.sessions.marked.Statement.{statement}
 use Rattle.mogtriz.proofs.sessions.marked.Tie as tie
 
-bytes-of-requires : tie.Need-bytes-of-requires
-bytes-of-requires c κs = tt
-
-returns : tie.Need-returns
-returns c = rw (c .bytes-of .ensures)
-
 pub marked-spec : {M : Type 1} → statement M
-marked-spec = tie.close (tie.spec bytes-of-requires returns)
+marked-spec = tie.close (tie.spec (λ c κs. tt) (λ c. rw (c .bytes-of .ensures)))

@@ -1,33 +1,33 @@
 -- `mogtriz::sessions::marks_of` meets its contract: before each turn the marks of the bytes before j are in place.
 -- Assumes nothing.
-use mathlib.Core.Path.{_≡_, refl, _∙_, ap}
-use mathlib.Core.Bool.{Bool, false, cond}
-use Prim.Native.Nat.{ℕ, _-_, _≤_}
-use lib.ListN.{length}
-use Rattle.mogtriz.specs.Sessions.{markOf}
-use Rattle.mogtriz.proofs.MarkLaws.{filledBy, filled-more, filled-done, blank, length-blank}
+use mathlib.Core.Path.{_≡_, refl, _∙_, sym}
+use mathlib.Core.Bool.{false}
+use Prim.Native.Nat.{_-_, _≤_}
+use lib.ListN.{length-map, List·getD-map}
+use Rattle.base.proofs.Fill.{filled, fill-more, fill-done}
+use Rattle.mogtriz.specs.Sessions.{markOf, marksOf}
 use native.Mathlib.Omega.{arith}
 use Rattle.mogtriz.proofs.sessions.marks_of.Statement.{statement}
 use Rattle.mogtriz.proofs.sessions.marks_of.Tie as tie
 
 abbrev Inv-loop : tie.InvT-loop
-Inv-loop bytes marks₀ j₀ marks j = (j ≤ 256) × (marks ≡ filledBy markOf bytes (blank false) j)
+Inv-loop bytes marks₀ j₀ marks j = (j ≤ 256) × (marks ≡ filled (marksOf bytes) marks₀ j)
 
 abbrev μ-loop : tie.MeasureT-loop
 μ-loop bytes marks₀ j₀ marks j = 256 - j
 
-loop-holds : tie.Need-loop-holds Inv-loop μ-loop
-unfolding filledBy blank
-loop-holds c = (omega arith, refl)
-
 loop-again : tie.Need-loop-again Inv-loop μ-loop
-loop-again c = let l = c .before .loop in (omega arith, rw (l .inv .1) (filled-more markOf (c .before .before .args .t1) (blank false) (l .j) 0 (omega arith) (omega (arith, length-blank false))))
+loop-again c =
+    let l = c .before .loop in
+    let b = c .before .before .args .t1 in
+    let n = length-map b markOf in
+    (omega arith, rw (l .inv .1) (fill-more (marksOf b) _ (l .j) false (omega arith) (omega arith) (sym (List·getD-map markOf b (l .j) 0))))
 
 returns : tie.Need-returns Inv-loop μ-loop
 returns c =
-    let l = c .before .loop in
-    let m = c .before .before .args .t1 in
-    l .inv .1 ∙ ap (filledBy markOf m (blank false)) (omega arith) ∙ filled-done markOf m (blank false) (omega (arith, length-blank false))
+    let b = c .before .before .args .t1 in
+    let n = length-map b markOf in
+    c .before .loop .inv .1 ∙ fill-done (marksOf b) _ (c .before .loop .j) (omega arith) (omega arith)
 
 pub marks-of-spec : {M : Type 1} → statement M
 marks-of-spec =
@@ -35,7 +35,7 @@ marks-of-spec =
     (tie.spec
     Inv-loop
     μ-loop
-    loop-holds
+    (λ c. (omega arith, refl))
     (λ c. omega arith)
     (λ c. omega arith)
     (λ c. omega arith)

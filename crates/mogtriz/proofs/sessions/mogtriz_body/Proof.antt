@@ -11,15 +11,12 @@ use Rattle.mogtriz.specs.Sessions.{partIn}
 use Rattle.mogtriz.proofs.sessions.mogtriz_body.Statement.{statement}
 use Rattle.mogtriz.proofs.sessions.mogtriz_body.Tie as tie
 
-passed : (c : tie.Else1) → firstMet (bodyChecks (c .before .before .before .args .bytes .now) (c .before .before .before .args .node)) ≡ 0
+passed : (c : tie.Else1) → let g = c .before .before .before .args in firstMet (bodyChecks (g .bytes .now) (g .node)) ≡ 0
 passed c = sym (c .before .body-refusal .ensures) ∙ c .if1 .left
 
 returns : tie.Need-returns
 unfolding partIn
-returns c =
-    let g = c .before .before .before .args in
-    let r = c .before .body-refusal .ensures in
-    rw (r, ne-eqb (firstMet (bodyChecks (g .bytes .now) (g .node))) 0 (rw r at (c .if1 .taken)))
+returns c = let r = c .before .body-refusal .ensures in rw (r, ne-eqb _ 0 (rw r at (c .if1 .taken)))
 
 returns-2 : tie.Need-returns-2
 unfolding partIn

@@ -4,14 +4,5 @@ use borrow.Author.Needs.{needs}
 use Rattle.mogtriz.proofs.sessions.mogtriz_read.Statement.{statement}
 use Rattle.mogtriz.proofs.sessions.mogtriz_read.Tie as tie
 
-read-requires : tie.Need-read-requires
-read-requires c κs = tt
-
-for-c-requires : tie.Need-for-c-requires
-for-c-requires c κs = tt
-
-returns : tie.Need-returns
-returns c = let r = c .before .before .before .read .ensures in (rw (c .for-c .ensures, r .0), r .1)
-
 pub mogtriz-read-spec : {M : Type 1} → statement M
-mogtriz-read-spec = tie.close (tie.spec read-requires for-c-requires (λ c. search needs) returns)
+mogtriz-read-spec = tie.close (tie.spec (λ c κs. tt) (λ c κs. tt) (λ c. search needs) (λ c. let r = c .before .before .before .read .ensures in (rw (c .for-c .ensures, r .0), r .1)))

@@ -1,40 +1,29 @@
 -- `mogtriz::sessions::mogtriz_write` meets its contract: a byte above 1 is refused before any other check, and else it is the session's own write.
 -- Assumes nothing.
-use mathlib.Core.Path.{sym, _∙_}
+use mathlib.Core.Path.{refl, sym, _∙_}
 use Rattle.mogtriz.specs.Sessions.{writtenC, outWrittenC}
 use borrow.Author.Needs.{needs}
 use Rattle.mogtriz.proofs.sessions.mogtriz_write.Statement.{statement}
 use Rattle.mogtriz.proofs.sessions.mogtriz_write.Tie as tie
 
-has-other-marks-requires : tie.Need-has-other-marks-requires
-has-other-marks-requires c κs = tt
-
 returns : tie.Need-returns
 unfolding writtenC outWrittenC
-returns c = let h = sym (c .before .has-other-marks .ensures) ∙ c .if1 .taken in (rw h, rw h)
-
-session-requires : tie.Need-session-requires
-session-requires c κs = tt
-
-write-requires : tie.Need-write-requires
-write-requires c κs = tt
+returns c = rw (sym (c .before .has-other-marks .ensures) ∙ c .if1 .taken) (refl, refl)
 
 returns-2 : tie.Need-returns-2
 unfolding writtenC outWrittenC
 returns-2 c =
-    let w = c .before .before .write .ensures in
-    let z = c .before .before .before .before .session .ensures in
     let e = c .before .before .before .before .before in
-    let h = sym (e .before .has-other-marks .ensures) ∙ e .if1 .left in
-    (rw (h, w .0, z), rw h (w .1 ∙ rw z))
+    let w = c .before .before .write .ensures in
+    rw (sym (e .before .has-other-marks .ensures) ∙ e .if1 .left, w .0, w .1, c .before .before .before .before .session .ensures) (refl, refl)
 
 pub mogtriz-write-spec : {M : Type 1} → statement M
 mogtriz-write-spec =
     tie.close
     (tie.spec
-    has-other-marks-requires
+    (λ c κs. tt)
     returns
-    session-requires
-    write-requires
+    (λ c κs. tt)
+    (λ c κs. tt)
     (λ c. search needs)
     returns-2)

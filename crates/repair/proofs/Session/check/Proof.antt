@@ -1,7 +1,6 @@
 -- `repair::Session::check` meets its contract.
 -- Assumes nothing.
-use mathlib.Core.Path.{_≡_, sym, _∙_, ap}
-use Rattle.repair.specs.Session.{refusedStart}
+use mathlib.Core.Path.{sym, _∙_}
 use Rattle.repair.specs.Boxed.{checkedBox}
 use Rattle.repair.proofs.BoxedLaws.{answer-refused}
 use borrow.Author.Needs.{needs}
@@ -14,9 +13,6 @@ returns c =
     let e = c .before .before .box-refusal .ensures in
     rw (← e) (c .refused .ensures ∙ answer-refused (c .before .before .before .before .args .bytes .now) _ (c .before .if1 .taken))
 
-box-session-requires : tie.Need-box-session-requires
-box-session-requires c κs = sym (c .before .box-refusal .ensures) ∙ c .if1 .left
-
 returns-2 : tie.Need-returns-2
 unfolding checkedBox
 returns-2 c = rw (sym (c .before .before .box-refusal .ensures) ∙ c .before .if1 .left, c .box-session .ensures)
@@ -24,4 +20,4 @@ returns-2 c = rw (sym (c .before .before .box-refusal .ensures) ∙ c .before .i
 pub check-spec : {M : Type 1} → statement M
 check-spec =
     tie.close
-    (tie.spec (λ c κs. search needs) (λ c κs. search needs) returns box-session-requires returns-2)
+    (tie.spec (λ c κs. search needs) (λ c κs. search needs) returns (λ c κs. sym (c .before .box-refusal .ensures) ∙ c .if1 .left) returns-2)

@@ -1,26 +1,21 @@
 -- `repair::Session::step` meets its contract: a refusal changes nothing, and an accepted step mends one block and sets one mark.
 -- Assumes nothing.
-use mathlib.Core.Path.{_≡_, sym, _∙_}
+use mathlib.Core.Path.{_∙_, sym}
 use native.Mathlib.Omega.{arith}
 use borrow.Author.Needs.{needs}
 use Rattle.families.proofs.Laws.{few}
-use Rattle.checks.specs.Checks.{firstMet}
 use Rattle.lists.specs.Lists.{setLive}
-use Rattle.repair.specs.Step.{stepChecks}
 use Rattle.repair.proofs.StepLaws.{AcceptedStep, step-refused, step-made, accepted-step, step-range, step-blocks}
 use Rattle.repair.proofs.Session.step.Statement.{statement}
 use Rattle.repair.proofs.Session.step.Tie as tie
 
-passed : (c : tie.Else1) → firstMet (stepChecks (c .before .before .before .before .args .t1) (c .before .before .before .before .args .nodes .now) (c .before .before .before .before .args .node) (c .before .before .before .before .args .first) (c .before .before .before .before .args .second)) ≡ 0
-passed c = sym (c .before .step-refusal .ensures) ∙ c .if1 .left
-
 -- the step as one of a plan's would be
-is-accepted : (c : tie.Else1) → AcceptedStep (c .before .before .before .before .args .t1) (c .before .before .before .before .args .nodes .now) (record { round = 0; node = c .before .before .before .before .args .node; smaller = c .before .before .before .before .args .first; larger = c .before .before .before .before .args .second })
-is-accepted c = accepted-step _ _ _ (passed c)
+is-accepted : (c : tie.Else1) → let g = c .before .before .before .before .args in AcceptedStep (g .t1) (g .nodes .now) (record { round = 0; node = g .node; smaller = g .first; larger = g .second })
+is-accepted c = accepted-step _ _ _ (sym (c .before .step-refusal .ensures) ∙ c .if1 .left)
 
 returns : tie.Need-returns
 returns c =
-    let r = step-refused (c .before .before .before .before .args .t1) (c .before .before .before .before .args .nodes .now) (c .before .before .before .before .args .node) (c .before .before .before .before .args .first) (c .before .before .before .before .args .second) (c .before .step-refusal .result) (c .before .step-refusal .ensures) (c .if1 .taken) in
+    let r = step-refused _ _ _ _ _ _ (c .before .step-refusal .ensures) (c .if1 .taken) in
     (r .answer-is, r .nodes-are)
 
 xor-block-requires : tie.Need-xor-block-requires
@@ -36,7 +31,8 @@ element-write-self c =
 returns-2 : tie.Need-returns-2
 unfolding setLive
 returns-2 c =
-    let r = step-made (c .before .before .before .before .before .before .before .before .args .t1) (c .before .before .before .before .before .before .before .before .args .nodes .now) (c .before .before .before .before .before .before .before .before .args .node) (c .before .before .before .before .before .before .before .before .args .first) (c .before .before .before .before .before .before .before .before .args .second) (passed (c .before .before .before .before)) in
+    let g = c .before .before .before .before .before .before .before .before .args in
+    let r = step-made (g .t1) (g .nodes .now) (g .node) (g .first) (g .second) (sym (c .before .before .before .before .before .step-refusal .ensures) ∙ c .before .before .before .before .if1 .left) in
     (r .answer-is, c .before .before .xor-block .ensures ∙ r .nodes-are)
 
 pub step-spec : {M : Type 1} → statement M

@@ -1,99 +1,94 @@
 -- `repair::Session::step_refusal` meets its contract: its tests are the list's conditions, in the list's order.
 -- Assumes nothing.
-use mathlib.Core.Path.{_≡_, sym, _∙_, ap}
-use mathlib.Core.Bool.{Bool, true, false}
+use mathlib.Core.Path.{_≡_, sym, _∙_}
+use mathlib.Core.Bool.{false, not}
+use mathlib.Core.List.{[], _∷_}
 use Prim.Native.Nat.{ℕ, _<_}
 use native.Mathlib.Omega.{arith}
-use borrow.Author.Tests.{not-true, not-false}
 use borrow.Author.Needs.{needs}
 use lib.ListN.{length}
-use Rattle.families.specs.declared.Family.{Family}
-use Rattle.families.specs.Families.{familyOf, KInRange, IsNode, areRelated}
+use Rattle.families.specs.Families.{familyOf, KInRange, areRelated}
 use Rattle.families.proofs.Laws.{few}
-use Rattle.checks.specs.Checks.{firstMet}
+use Rattle.checks.specs.Checks.{_gives_, firstMet}
 use Rattle.checks.specs.Parameters.{outside}
-use Rattle.lists.specs.Lists.{isLive}
+use Rattle.lists.specs.Lists.{someOutside, isLive, someMissing}
 use Rattle.repair.specs.Session.{nodesOf, nodesChecks}
+use Rattle.repair.specs.Step.{stepChecks}
 use Rattle.repair.proofs.StartLaws.{known, sized}
-use Rattle.repair.proofs.StepLaws.{node-of, step-stops, step-4-node, step-4-first, step-4-second, step-10, step-11, step-12-first, step-12-second, step-0}
+use Rattle.repair.proofs.StepLaws.{node-of, step-stops, step-rest}
 use Rattle.repair.proofs.Session.step_refusal.Statement.{statement}
 use Rattle.repair.proofs.Session.step_refusal.Tie as tie
 
-passed : (c : tie.Else1) → firstMet (nodesChecks (c .before .before .before .args .self) (length (c .before .before .before .args .nodes .now))) ≡ 0
+-- 13 and 6 are passed
+passed : (c : tie.Else1) → let g = c .before .before .before .args in firstMet (nodesChecks (g .self) (length (g .nodes .now))) ≡ 0
 passed c = sym (c .before .nodes-refusal .ensures) ∙ c .if1 .left
 
--- a number that the test lets through is a node's
-n-is : (c : tie.Else1) → KInRange (familyOf (c .before .before .before .args .self .family)) (c .before .before .before .args .self .k)
-n-is c = known _ (sized _ _ (passed c) .starts) .range .blocks
+in-range : (c : tie.Else1) → let s = c .before .before .before .args .self in KInRange (familyOf (s .family)) (s .k)
+in-range c = known _ (sized _ _ (passed c) .starts) .range .blocks
 
-node-test : (c : tie.After-is-outside) → c .is-outside .result ≡ outside 1 (nodesOf (c .before .before .before .before .before .args .self)) (c .before .before .before .before .before .args .node)
-node-test c = c .is-outside .ensures ∙ ap (λ (n : ℕ). outside 1 n (c .before .before .before .before .before .args .node)) (c .before .node-count-of .ensures)
+below : (c : tie.Else1) (i : ℕ) → outside 1 (nodesOf (c .before .before .before .args .self)) i ≡ false → i < 256
+below c i h = omega (arith, node-of (c .before .before .before .args .self) i h .last, few _ _ (in-range c))
 
-node-inside : (c : tie.Else2) → outside 1 (nodesOf (c .before .before .before .before .before .before .args .self)) (c .before .before .before .before .before .before .args .node) ≡ false
-node-inside c = sym (node-test (c .before)) ∙ c .if2 .left
+-- 4 is passed, number by number
+node-inside : (c : tie.Else2) → let g = c .before .before .before .before .before .before .args in outside 1 (nodesOf (g .self)) (g .node) ≡ false
+node-inside c = sym (rw (c .before .before .node-count-of .ensures) at (c .before .is-outside .ensures)) ∙ c .if2 .left
 
-first-test : (c : tie.After-is-outside2) → c .is-outside2 .result ≡ outside 1 (nodesOf (c .before .before .before .before .before .before .before .args .self)) (c .before .before .before .before .before .before .before .args .first)
-first-test c = c .is-outside2 .ensures ∙ ap (λ (n : ℕ). outside 1 n (c .before .before .before .before .before .before .before .args .first)) (c .before .before .before .node-count-of .ensures)
+first-inside : (c : tie.Else3) → let g = c .before .before .before .before .before .before .before .before .args in outside 1 (nodesOf (g .self)) (g .first) ≡ false
+first-inside c = sym (rw (c .before .before .before .before .node-count-of .ensures) at (c .before .is-outside2 .ensures)) ∙ c .if3 .left
 
-first-inside : (c : tie.Else3) → outside 1 (nodesOf (c .before .before .before .before .before .before .before .before .args .self)) (c .before .before .before .before .before .before .before .before .args .first) ≡ false
-first-inside c = sym (first-test (c .before)) ∙ c .if3 .left
+second-inside : (c : tie.Else4) → let g = c .before .before .before .before .before .before .before .before .before .before .args in outside 1 (nodesOf (g .self)) (g .second) ≡ false
+second-inside c = sym (rw (c .before .before .before .before .before .before .node-count-of .ensures) at (c .before .is-outside3 .ensures)) ∙ c .if4 .left
 
-second-test : (c : tie.After-is-outside3) → c .is-outside3 .result ≡ outside 1 (nodesOf (c .before .before .before .before .before .before .before .before .before .args .self)) (c .before .before .before .before .before .before .before .before .before .args .second)
-second-test c = c .is-outside3 .ensures ∙ ap (λ (n : ℕ). outside 1 n (c .before .before .before .before .before .before .before .before .before .args .second)) (c .before .before .before .before .before .node-count-of .ensures)
+-- what is left once 4 is passed, and then once 10 is
+to-related : (c : tie.Else4) → let g = c .before .before .before .before .before .before .before .before .before .before .args in firstMet (stepChecks (g .self) (g .nodes .now) (g .node) (g .first) (g .second)) ≡ firstMet ((not (areRelated (familyOf (g .self .family)) (g .self .k) (g .first) (g .second) (g .node)) gives 10) ∷ (isLive (g .self .live) (g .node) gives 11) ∷ (someMissing (g .self .live) (g .first ∷ g .second ∷ []) gives 12) ∷ [])
+unfolding firstMet someOutside
+to-related c = step-rest _ _ _ _ _ (passed (c .before .before .before .before .before .before .before)) ∙ rw (node-inside (c .before .before .before .before), first-inside (c .before .before), second-inside c)
 
-second-inside : (c : tie.Else4) → outside 1 (nodesOf (c .before .before .before .before .before .before .before .before .before .before .args .self)) (c .before .before .before .before .before .before .before .before .before .before .args .second) ≡ false
-second-inside c = sym (second-test (c .before)) ∙ c .if4 .left
-
-relation : (c : tie.After-related) → c .related .result ≡ areRelated (familyOf (c .before .before .before .before .before .before .before .before .before .before .before .before .args .self .family)) (c .before .before .before .before .before .before .before .before .before .before .before .before .args .self .k) (c .before .before .before .before .before .before .before .before .before .before .before .before .args .first) (c .before .before .before .before .before .before .before .before .before .before .before .before .args .second) (c .before .before .before .before .before .before .before .before .before .before .before .before .args .node)
-relation c = c .related .ensures ∙ ap (λ (f : Family). areRelated f (c .before .before .before .before .before .before .before .before .before .before .before .before .args .self .k) (c .before .before .before .before .before .before .before .before .before .before .before .before .args .first) (c .before .before .before .before .before .before .before .before .before .before .before .before .args .second) (c .before .before .before .before .before .before .before .before .before .before .before .before .args .node)) (c .before .family-of .ensures)
-
-related : (c : tie.Else5) → areRelated (familyOf (c .before .before .before .before .before .before .before .before .before .before .before .before .before .args .self .family)) (c .before .before .before .before .before .before .before .before .before .before .before .before .before .args .self .k) (c .before .before .before .before .before .before .before .before .before .before .before .before .before .args .first) (c .before .before .before .before .before .before .before .before .before .before .before .before .before .args .second) (c .before .before .before .before .before .before .before .before .before .before .before .before .before .args .node) ≡ true
-related c = sym (relation (c .before)) ∙ not-false _ (c .if5 .left)
+to-marks : (c : tie.Else5) → let g = c .before .before .before .before .before .before .before .before .before .before .before .before .before .args in firstMet (stepChecks (g .self) (g .nodes .now) (g .node) (g .first) (g .second)) ≡ firstMet ((isLive (g .self .live) (g .node) gives 11) ∷ (someMissing (g .self .live) (g .first ∷ g .second ∷ []) gives 12) ∷ [])
+unfolding firstMet
+to-marks c = to-related (c .before .before .before) ∙ rw (← (rw (c .before .before .family-of .ensures) at (c .before .related .ensures)), c .if5 .left)
 
 returns : tie.Need-returns
 returns c =
     let e = c .before .nodes-refusal .ensures in
-    e ∙ sym (step-stops (c .before .before .before .args .self) (c .before .before .before .args .nodes .now) (c .before .before .before .args .node) (c .before .before .before .args .first) (c .before .before .before .args .second) (rw e at (c .if1 .taken)))
-
-node-count-of-requires : tie.Need-node-count-of-requires
-node-count-of-requires c κs = n-is c
+    e ∙ sym (step-stops _ _ _ _ _ (rw e at (c .if1 .taken)))
 
 returns-2 : tie.Need-returns-2
-returns-2 c = sym (step-4-node (c .before .before .before .before .before .before .args .self) (c .before .before .before .before .before .before .args .nodes .now) (c .before .before .before .before .before .before .args .node) (c .before .before .before .before .before .before .args .first) (c .before .before .before .before .before .before .args .second) (passed (c .before .before .before)) (sym (node-test (c .before)) ∙ c .if2 .taken))
+unfolding firstMet someOutside
+returns-2 c = sym (step-rest _ _ _ _ _ (passed (c .before .before .before)) ∙ rw (← (rw (c .before .before .node-count-of .ensures) at (c .before .is-outside .ensures)), c .if2 .taken))
 
 returns-3 : tie.Need-returns-3
-returns-3 c = sym (step-4-first (c .before .before .before .before .before .before .before .before .args .self) (c .before .before .before .before .before .before .before .before .args .nodes .now) (c .before .before .before .before .before .before .before .before .args .node) (c .before .before .before .before .before .before .before .before .args .first) (c .before .before .before .before .before .before .before .before .args .second) (passed (c .before .before .before .before .before)) (node-inside (c .before .before)) (sym (first-test (c .before)) ∙ c .if3 .taken))
+unfolding firstMet someOutside
+returns-3 c = sym (step-rest _ _ _ _ _ (passed (c .before .before .before .before .before)) ∙ rw (node-inside (c .before .before), ← (rw (c .before .before .before .before .node-count-of .ensures) at (c .before .is-outside2 .ensures)), c .if3 .taken))
 
 returns-4 : tie.Need-returns-4
-returns-4 c = sym (step-4-second (c .before .before .before .before .before .before .before .before .before .before .args .self) (c .before .before .before .before .before .before .before .before .before .before .args .nodes .now) (c .before .before .before .before .before .before .before .before .before .before .args .node) (c .before .before .before .before .before .before .before .before .before .before .args .first) (c .before .before .before .before .before .before .before .before .before .before .args .second) (passed (c .before .before .before .before .before .before .before)) (node-inside (c .before .before .before .before)) (first-inside (c .before .before)) (sym (second-test (c .before)) ∙ c .if4 .taken))
+unfolding firstMet someOutside
+returns-4 c = sym (step-rest _ _ _ _ _ (passed (c .before .before .before .before .before .before .before)) ∙ rw (node-inside (c .before .before .before .before), first-inside (c .before .before), ← (rw (c .before .before .before .before .before .before .node-count-of .ensures) at (c .before .is-outside3 .ensures)), c .if4 .taken))
 
 related-requires : tie.Need-related-requires
 related-requires c κs =
-    rw (c .family-of .ensures) (n-is (c .before .before .before .before .before .before .before .before), ((node-of (c .before .before .before .before .before .before .before .before .before .before .before .args .self) (c .before .before .before .before .before .before .before .before .before .before .before .args .nodes .now) (c .before .before .before .before .before .before .before .before .before .before .before .args .node) (c .before .before .before .before .before .before .before .before .before .before .before .args .first) (c .before .before .before .before .before .before .before .before .before .before .before .args .second) (c .before .before .before .before .before .before .before .before .before .before .before .args .first) (first-inside (c .before .before .before))), ((node-of (c .before .before .before .before .before .before .before .before .before .before .before .args .self) (c .before .before .before .before .before .before .before .before .before .before .before .args .nodes .now) (c .before .before .before .before .before .before .before .before .before .before .before .args .node) (c .before .before .before .before .before .before .before .before .before .before .before .args .first) (c .before .before .before .before .before .before .before .before .before .before .before .args .second) (c .before .before .before .before .before .before .before .before .before .before .before .args .second) (second-inside (c .before))), (node-of (c .before .before .before .before .before .before .before .before .before .before .before .args .self) (c .before .before .before .before .before .before .before .before .before .before .before .args .nodes .now) (c .before .before .before .before .before .before .before .before .before .before .before .args .node) (c .before .before .before .before .before .before .before .before .before .before .before .args .first) (c .before .before .before .before .before .before .before .before .before .before .before .args .second) (c .before .before .before .before .before .before .before .before .before .before .before .args .node) (node-inside (c .before .before .before .before .before))))))
+    let s = c .before .before .before .before .before .before .before .before .before .before .before .args .self in
+    rw (c .family-of .ensures) (in-range (c .before .before .before .before .before .before .before .before), (node-of s _ (first-inside (c .before .before .before)), (node-of s _ (second-inside (c .before)), node-of s _ (node-inside (c .before .before .before .before .before)))))
 
 returns-5 : tie.Need-returns-5
-returns-5 c = sym (step-10 (c .before .before .before .before .before .before .before .before .before .before .before .before .before .args .self) (c .before .before .before .before .before .before .before .before .before .before .before .before .before .args .nodes .now) (c .before .before .before .before .before .before .before .before .before .before .before .before .before .args .node) (c .before .before .before .before .before .before .before .before .before .before .before .before .before .args .first) (c .before .before .before .before .before .before .before .before .before .before .before .before .before .args .second) (passed (c .before .before .before .before .before .before .before .before .before .before)) (node-inside (c .before .before .before .before .before .before .before)) (first-inside (c .before .before .before .before .before)) (second-inside (c .before .before .before)) (sym (relation (c .before)) ∙ not-true _ (c .if5 .taken)))
-
-array-read-if6 : tie.Need-array-read-if6
-array-read-if6 c = omega (arith, (node-of (c .before .before .before .before .before .before .before .before .before .before .before .before .before .before .args .self) (c .before .before .before .before .before .before .before .before .before .before .before .before .before .before .args .nodes .now) (c .before .before .before .before .before .before .before .before .before .before .before .before .before .before .args .node) (c .before .before .before .before .before .before .before .before .before .before .before .before .before .before .args .first) (c .before .before .before .before .before .before .before .before .before .before .before .before .before .before .args .second) (c .before .before .before .before .before .before .before .before .before .before .before .before .before .before .args .node) (node-inside (c .before .before .before .before .before .before .before .before))) .last, few _ _ (n-is (c .before .before .before .before .before .before .before .before .before .before .before)))
+unfolding firstMet
+returns-5 c = sym (to-related (c .before .before .before) ∙ rw (← (rw (c .before .before .family-of .ensures) at (c .before .related .ensures)), c .if5 .taken))
 
 returns-6 : tie.Need-returns-6
-returns-6 c = sym (step-11 (c .before .before .before .before .before .before .before .before .before .before .before .before .before .before .before .args .self) (c .before .before .before .before .before .before .before .before .before .before .before .before .before .before .before .args .nodes .now) (c .before .before .before .before .before .before .before .before .before .before .before .before .before .before .before .args .node) (c .before .before .before .before .before .before .before .before .before .before .before .before .before .before .before .args .first) (c .before .before .before .before .before .before .before .before .before .before .before .before .before .before .before .args .second) (passed (c .before .before .before .before .before .before .before .before .before .before .before .before)) (node-inside (c .before .before .before .before .before .before .before .before .before)) (first-inside (c .before .before .before .before .before .before .before)) (second-inside (c .before .before .before .before .before)) (related (c .before .before)) (c .if6 .taken))
-
-array-read-if7 : tie.Need-array-read-if7
-array-read-if7 c = omega (arith, (node-of (c .before .before .before .before .before .before .before .before .before .before .before .before .before .before .before .args .self) (c .before .before .before .before .before .before .before .before .before .before .before .before .before .before .before .args .nodes .now) (c .before .before .before .before .before .before .before .before .before .before .before .before .before .before .before .args .node) (c .before .before .before .before .before .before .before .before .before .before .before .before .before .before .before .args .first) (c .before .before .before .before .before .before .before .before .before .before .before .before .before .before .before .args .second) (c .before .before .before .before .before .before .before .before .before .before .before .before .before .before .before .args .first) (first-inside (c .before .before .before .before .before .before .before))) .last, few _ _ (n-is (c .before .before .before .before .before .before .before .before .before .before .before .before)))
+unfolding firstMet
+returns-6 c = sym (to-marks (c .before .before) ∙ rw (c .if6 .taken))
 
 returns-7 : tie.Need-returns-7
-returns-7 c = sym (step-12-first (c .before .before .before .before .before .before .before .before .before .before .before .before .before .before .before .before .args .self) (c .before .before .before .before .before .before .before .before .before .before .before .before .before .before .before .before .args .nodes .now) (c .before .before .before .before .before .before .before .before .before .before .before .before .before .before .before .before .args .node) (c .before .before .before .before .before .before .before .before .before .before .before .before .before .before .before .before .args .first) (c .before .before .before .before .before .before .before .before .before .before .before .before .before .before .before .before .args .second) (passed (c .before .before .before .before .before .before .before .before .before .before .before .before .before)) (node-inside (c .before .before .before .before .before .before .before .before .before .before)) (first-inside (c .before .before .before .before .before .before .before .before)) (second-inside (c .before .before .before .before .before .before)) (related (c .before .before .before)) (c .before .if6 .left) (not-true _ (c .if7 .taken)))
-
-array-read-if8 : tie.Need-array-read-if8
-array-read-if8 c = omega (arith, (node-of (c .before .before .before .before .before .before .before .before .before .before .before .before .before .before .before .before .args .self) (c .before .before .before .before .before .before .before .before .before .before .before .before .before .before .before .before .args .nodes .now) (c .before .before .before .before .before .before .before .before .before .before .before .before .before .before .before .before .args .node) (c .before .before .before .before .before .before .before .before .before .before .before .before .before .before .before .before .args .first) (c .before .before .before .before .before .before .before .before .before .before .before .before .before .before .before .before .args .second) (c .before .before .before .before .before .before .before .before .before .before .before .before .before .before .before .before .args .second) (second-inside (c .before .before .before .before .before .before))) .last, few _ _ (n-is (c .before .before .before .before .before .before .before .before .before .before .before .before .before)))
+unfolding firstMet someMissing
+returns-7 c = sym (to-marks (c .before .before .before) ∙ rw (c .before .if6 .left, c .if7 .taken))
 
 returns-8 : tie.Need-returns-8
-returns-8 c = sym (step-12-second (c .before .before .before .before .before .before .before .before .before .before .before .before .before .before .before .before .before .args .self) (c .before .before .before .before .before .before .before .before .before .before .before .before .before .before .before .before .before .args .nodes .now) (c .before .before .before .before .before .before .before .before .before .before .before .before .before .before .before .before .before .args .node) (c .before .before .before .before .before .before .before .before .before .before .before .before .before .before .before .before .before .args .first) (c .before .before .before .before .before .before .before .before .before .before .before .before .before .before .before .before .before .args .second) (passed (c .before .before .before .before .before .before .before .before .before .before .before .before .before .before)) (node-inside (c .before .before .before .before .before .before .before .before .before .before .before)) (first-inside (c .before .before .before .before .before .before .before .before .before)) (second-inside (c .before .before .before .before .before .before .before)) (related (c .before .before .before .before)) (c .before .before .if6 .left) (not-false _ (c .before .if7 .left)) (not-true _ (c .if8 .taken)))
+unfolding firstMet someMissing
+returns-8 c = sym (to-marks (c .before .before .before .before) ∙ rw (c .before .before .if6 .left, c .before .if7 .left, c .if8 .taken))
 
 returns-9 : tie.Need-returns-9
-returns-9 c = sym (step-0 (c .before .before .before .before .before .before .before .before .before .before .before .before .before .before .before .before .before .args .self) (c .before .before .before .before .before .before .before .before .before .before .before .before .before .before .before .before .before .args .nodes .now) (c .before .before .before .before .before .before .before .before .before .before .before .before .before .before .before .before .before .args .node) (c .before .before .before .before .before .before .before .before .before .before .before .before .before .before .before .before .before .args .first) (c .before .before .before .before .before .before .before .before .before .before .before .before .before .before .before .before .before .args .second) (passed (c .before .before .before .before .before .before .before .before .before .before .before .before .before .before)) (node-inside (c .before .before .before .before .before .before .before .before .before .before .before)) (first-inside (c .before .before .before .before .before .before .before .before .before)) (second-inside (c .before .before .before .before .before .before .before)) (related (c .before .before .before .before)) (c .before .before .if6 .left) (not-false _ (c .before .if7 .left)) (not-false _ (c .if8 .left)))
+unfolding firstMet someMissing
+returns-9 c = sym (to-marks (c .before .before .before .before) ∙ rw (c .before .before .if6 .left, c .before .if7 .left, c .if8 .left))
 
 pub step-refusal-spec : {M : Type 1} → statement M
 step-refusal-spec =
@@ -101,7 +96,7 @@ step-refusal-spec =
     (tie.spec
     (λ c κs. search needs)
     returns
-    node-count-of-requires
+    (λ c κs. in-range c)
     (λ c κs. search needs)
     returns-2
     (λ c κs. search needs)
@@ -111,10 +106,10 @@ step-refusal-spec =
     (λ c κs. search needs)
     related-requires
     returns-5
-    array-read-if6
+    (λ c. below (c .before .before .before .before .before .before .before .before .before .before .before) _ (node-inside (c .before .before .before .before .before .before .before .before)))
     returns-6
-    array-read-if7
+    (λ c. below (c .before .before .before .before .before .before .before .before .before .before .before .before) _ (first-inside (c .before .before .before .before .before .before .before)))
     returns-7
-    array-read-if8
+    (λ c. below (c .before .before .before .before .before .before .before .before .before .before .before .before .before) _ (second-inside (c .before .before .before .before .before .before)))
     returns-8
     returns-9)

@@ -1,14 +1,13 @@
 -- `repair::Session::write` meets its contract: a refusal leaves the destination alone, and the list stands for what is written.
 -- Assumes nothing.
-use mathlib.Core.Path.{_≡_, sym, _∙_, ap}
-use Rattle.repair.specs.Boxed.{listed}
+use mathlib.Core.Path.{_∙_, sym}
 use Rattle.repair.proofs.StartLaws.{sized}
 use Rattle.repair.proofs.BoxedLaws.{Listed, list-passed, write-by-list, write-done, listed-some, listed-all}
 use borrow.Author.Needs.{needs}
 use Rattle.repair.proofs.Session.write.Statement.{statement}
 use Rattle.repair.proofs.Session.write.Tie as tie
 
-passed : (c : tie.Else1) → Listed (c .before .before .before .before .before .args .self) (c .before .before .before .before .before .args .nodes .now) (c .before .before .before .before .before .args .list .now) (c .before .before .before .before .before .args .out .now)
+passed : (c : tie.Else1) → let g = c .before .before .before .before .before .args in Listed (g .self) (g .nodes .now) (g .list .now) (g .out .now)
 passed c = list-passed _ _ _ _ (sym (c .before .list-refusal .ensures) ∙ c .if1 .left)
 
 returns : tie.Need-returns

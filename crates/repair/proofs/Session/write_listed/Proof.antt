@@ -1,9 +1,9 @@
 -- `repair::Session::write_listed` meets its contract: what is checked of a session and a list is what writing a box asks.
 -- Assumes nothing.
-use mathlib.Core.Path.{_≡_, sym, _∙_, ap}
+use mathlib.Core.Path.{_≡_}
 use mathlib.Core.Bool.{true, false}
 use mathlib.Core.List.{List}
-use Prim.Native.Nat.{ℕ, _+_, _*_, _≤_, _<_}
+use Prim.Native.Nat.{ℕ, _*_, _≤_}
 use native.Mathlib.Nat.{mul-le-mul, le-trans}
 use borrow.Author.Tests.{lt-ltb, le-ltb}
 use lib.ListN.{length}
@@ -26,17 +26,8 @@ bounds s list m o r =
     let l : length list ≤ 255 = le-trans (rising-few (nodesOf s) list o r) (few (familyOf (s .family)) (s .k) (m .range .blocks)) in
     (l, mul-le-mul {n₂ = 255} {m₂ = 4096} l (m .range .most))
 
-small : (c : tie.After-struct-known) → (length (c .before .before .before .before .args .list .now) ≤ 255) × (length (c .before .before .before .before .args .list .now) * c .before .before .before .before .args .self .len ≤ 1044480)
-small c =
-    let g = c .before .before .before .before .args in
-    let p = c .before .before .before .before .pre in
-    bounds (g .self) (g .list .now) (known (g .self) (p .0 .0)) (p .1 .0) (p .1 .1)
-
-mul-needed : tie.Need-mul-needed
-mul-needed c = omega (arith, small c)
-
-add-needed-2 : tie.Need-add-needed-2
-add-needed-2 c = omega (arith, small c)
+small : (c : tie.After-struct-known) → let g = c .before .before .before .before .args in (length (g .list .now) ≤ 255) × (length (g .list .now) * g .self .len ≤ 1044480)
+small c = let p = c .before .before .before .before .pre in bounds _ _ (known _ (p .0 .0)) (p .1 .0) (p .1 .1)
 
 returns : tie.Need-returns
 returns c = (simp (lt-ltb _ _ (c .if1 .taken)), simp (lt-ltb _ _ (c .if1 .taken)))
@@ -56,4 +47,4 @@ returns-2 c = (simp (le-ltb _ _ (c .before .before .before .before .if1 .left)),
 pub write-listed-spec : {M : Type 1} → statement M
 write-listed-spec =
     tie.close
-    (tie.spec (λ c. search needs) mul-needed add-needed-2 returns write-box-requires (λ c. search needs) returns-2)
+    (tie.spec (λ c. search needs) (λ c. omega (arith, small c)) (λ c. omega (arith, small c)) returns write-box-requires (λ c. search needs) returns-2)
