@@ -1,4 +1,4 @@
-// Powers of two and lowest bits. The laws of numbers, bits and lists that every crate may cite stand in proofs/.
+// Powers of two, lowest bits, bytes as numbers. The laws of numbers, bits and lists that every crate may cite stand in proofs/.
 ghost use mathlib.Core.Path.{_≡_};
 ghost use Prim.Native.Nat.{_^_, _<_};
 ghost use lib.Count.{trailingZeros};
@@ -16,4 +16,11 @@ pub fn lowest_bit(x: usize) -> usize
     ensures { λ r. ⌜ r ≡ trailingZeros 64 x ⌝ }
 {
     usize::trailing_zeros(x) as usize
+}
+
+// A byte as a number.
+pub fn wide(byte: u8) -> usize
+    ensures { λ r. ⌜ r ≡ byte ⌝ }
+{
+    byte as usize
 }

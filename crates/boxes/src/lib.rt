@@ -1,4 +1,5 @@
 // Boxes of nodes: their checks, the body of a node, and bodies copied between a box and a nodes buffer.
+use base::wide;
 ghost use mathlib.Core.Path.{_≡_};
 ghost use mathlib.Core.List.{_++_};
 ghost use Prim.Native.Nat.{_+_, _*_, _≤_, _<_};
@@ -10,13 +11,6 @@ ghost use Rattle.boxes.specs.Box.{familyIn, kIn, lengthIn, heldIn, zeros
 ghost use Rattle.boxes.specs.Bodies.{headerOf, bodiesOf, boxOf, withBodies};
 ghost use Rattle.boxes.specs.Places.{ListIn, Run};
 ghost use Rattle.boxes.specs.Names.{nameChecks};
-
-// A byte as a number.
-fn wide(byte: u8) -> usize
-    ensures { λ r. ⌜ r ≡ byte ⌝ }
-{
-    byte as usize
-}
 
 // The number of a box's family.
 pub fn family(bytes: &[u8]) -> usize

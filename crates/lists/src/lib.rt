@@ -1,17 +1,11 @@
 // Node lists, a byte a node, and marks, a bool for each number from 0 to 255.
+use base::wide;
 ghost use mathlib.Core.Path.{_≡_};
 ghost use mathlib.Core.List.{_++_};
 ghost use Prim.Native.Nat.{_-_, _≤_};
 ghost use lib.ListN.{length, replicate};
 ghost use Rattle.checks.specs.Checks.{firstMet};
 ghost use Rattle.lists.specs.Lists.{someOutside, rises, listChecks, placeIn, noneLive, setLive, someMissing, liveOutside, liveNodes};
-
-// A byte as a number.
-fn wide(byte: u8) -> usize
-    ensures { λ r. ⌜ r ≡ byte ⌝ }
-{
-    byte as usize
-}
 
 // Whether a node number of the list is 0 or above n.
 pub fn some_outside(n: usize, list: &[u8]) -> bool

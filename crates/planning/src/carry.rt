@@ -1,5 +1,5 @@
 // A plan carried out on a nodes buffer.
-use crate::wide;
+use base::wide;
 ghost use mathlib.Core.Path.{_≡_};
 ghost use Prim.Native.Nat.{ℕ, _*_, _≤_};
 ghost use lib.ListN.{length};

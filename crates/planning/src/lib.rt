@@ -4,8 +4,6 @@ pub mod rounds;
 mod search;
 mod worth;
 
-ghost use mathlib.Core.Path.{_≡_};
-
 // A node to repair and its pair; zeros where a round has no node left to repair.
 pub struct Repair {
     pub node: usize,
@@ -19,11 +17,4 @@ pub struct Planned {
     pub rounds: usize,
     pub left: usize,
     pub live: [bool; 256],
-}
-
-// A byte as a number.
-fn wide(byte: u8) -> usize
-    ensures { λ r. ⌜ r ≡ byte ⌝ }
-{
-    byte as usize
 }

@@ -1,6 +1,6 @@
 // The search for the pair that repairs a node.
 use crate::Repair;
-use crate::wide;
+use base::wide;
 use families::Family;
 ghost use mathlib.Core.Path.{_≡_};
 ghost use Prim.Native.Nat.{ℕ, _≤_};

@@ -1,6 +1,6 @@
 // Which nodes a search is worth making for. Where few nodes are live, their pairs are fewer than the tries of a search for every
 // missing node, and most missing nodes have none.
-use crate::wide;
+use base::wide;
 use families::Family;
 ghost use mathlib.Core.Path.{_≡_};
 ghost use mathlib.Core.Bool.{false};
