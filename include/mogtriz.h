@@ -10,6 +10,8 @@
  * 2       weight-two   2 to 22  k(k + 1) / 2
  * 3       tetrahedron  4        14
  *
+ * Data block i alone is the node with column 1 << (i - 1): in simplex node 2^(i - 1), in the two others node i.
+ *
  * Every number is taken as it comes: one that is out of range is refused, however large, and never cut.
  *
  * In every call each pointer has to be to as many bytes as its length says, and may not be null, not even with a length
@@ -115,6 +117,12 @@ typedef struct {
 mogtriz_started mogtriz_start(size_t family, size_t k, size_t len, const uint8_t *list, size_t list_len);
 
 /*
+ * A box: byte 0 the family, byte 1 k, bytes 2 and 3 len, low byte first, byte 4 the number E of nodes held, bytes 5 to 7 zero;
+ * then E node numbers, a byte each, strictly rising; then their E blocks of len bytes in the same order, the bodies. Its length
+ * is 8 + E + E * len.
+ */
+
+/*
  * A box checked alone, which gives its session.
  *   7  under 8 bytes   1, 2, 3 as above   8  a byte of 5 to 7 is not zero   7  the length is not as its contents say
  *   9  E is above n    4  a node number is 0 or above n    5  the list does not strictly rise
@@ -154,14 +162,15 @@ mogtriz_stepped mogtriz_step(mogtriz_session session, uint8_t *nodes, size_t nod
 /*
  * The repairs to make, in rounds from 1. In a round every missing node with a related pair, both live when the round began,
  * is repaired from the pair whose smaller number is least; it serves from the next round on. Each step is four bytes: round,
- * node, smaller, larger; in a round they rise by node. There are at most n steps, and nothing beyond them is written.
+ * node, smaller, larger; in a round they rise by node. There are at most n steps, and nothing beyond them is written. Where nodes
+ * are left the plan is accepted all the same, and `left` says how many.
  *   13  no start gives this session   6  out_len is under four bytes a step; nothing is written then
  */
 mogtriz_repairs mogtriz_plan(mogtriz_session session, uint8_t *out, size_t out_len);
 
 /*
  * The plan carried out on the nodes buffer; the next session has the repaired nodes live. Places of nodes left keep their
- * bytes. A refusal writes nothing:
+ * bytes; where there are any the run is accepted all the same, and `left` says how many. A refusal writes nothing:
  *   13  no start gives this session   6  nodes_len is not n * len
  */
 mogtriz_repairs mogtriz_run(mogtriz_session session, uint8_t *nodes, size_t nodes_len);

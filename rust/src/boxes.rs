@@ -39,6 +39,10 @@ pub struct Written {
 impl Session {
     /// A box checked alone, which gives its session.
     ///
+    /// A box: byte 0 the family, byte 1 k, bytes 2 and 3 L, low byte first, byte 4 the number E of nodes held, bytes 5 to 7
+    /// zero; then E node numbers, a byte each, strictly rising; then their E blocks of L bytes in the same order. Its length
+    /// is 8 + E + E × L.
+    ///
     /// Refused with 7 under 8 bytes, 1, 2, 3, 8, 7 where the length is not as the contents say, 9, 4 and 5, in this
     /// order.
     ///

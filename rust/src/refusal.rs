@@ -148,7 +148,7 @@ impl Error for Refusal {}
 pub struct Refused {
     /// Why the call was turned away.
     pub refusal: Refusal,
-    /// The session to go on with.
+    /// The session as it was handed in; after a start or box one of zeros, which every call turns away with 13.
     pub session: Session,
 }
 

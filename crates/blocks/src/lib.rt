@@ -1,7 +1,7 @@
 // Blocks: copied, and the XOR of two blocks of a nodes buffer put in the place of a third.
 ghost use mathlib.Core.Path.{_≡_};
 ghost use mathlib.Core.Logic.{_⊎_};
-ghost use Prim.Native.Nat.{ℕ, _+_, _-_, _*_, _≤_, _<_};
+ghost use Prim.Native.Nat.{_+_, _-_, _*_, _≤_};
 ghost use lib.ListN.{length};
 ghost use borrow.Rule.Slice.PartMut.{midOf, putMid};
 ghost use Rattle.blocks.specs.Blocks.{xorBytes, blockOf, withBlock, InBuffer, BlocksIn};

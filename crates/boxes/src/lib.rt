@@ -169,7 +169,8 @@ pub fn body(bytes: &[u8], j: usize) -> &[u8]
     &bytes[from..from + len]
 }
 
-// How many numbers of a list, from place i on, follow each other without a gap.
+// A count of numbers of a list, from place i on, that follow each other without a gap: one at least. It is the most there is, but
+// no caller needs that.
 fn run_length(list: &[u8], i: usize) -> usize
     requires { ⌜ i < length (now list) ⌝ }
     ensures { λ r. ⌜ Run (now (list .entry)) i r ⌝ }

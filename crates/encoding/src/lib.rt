@@ -1,7 +1,7 @@
 // Encoding: the nodes buffer from an object, by the generator matrix.
 use families::Family;
 ghost use mathlib.Core.Path.{_≡_};
-ghost use Prim.Native.Nat.{ℕ, _+_, _*_, _≤_};
+ghost use Prim.Native.Nat.{_*_};
 ghost use lib.ListN.{length};
 ghost use Rattle.families.specs.Families.{KInRange, nodeCount, columnOf};
 ghost use Rattle.blocks.specs.Blocks.{withBlock};

@@ -17,7 +17,7 @@ use Rattle.repair.specs.Repairs.{planned, outPlanned, ran}
 pub data Row : Type 0 where
   -- family, k, L, an object, and its nodes
   Encodes : ℕ → ℕ → ℕ → List ℕ → List ℕ → Row
-  -- family, k and the live nodes; the plan's steps, four numbers each, its rounds, and the nodes left
+  -- family, k and the live nodes, L being 1; the plan's steps, four numbers each, its rounds, and the nodes left
   Plans : ℕ → ℕ → List ℕ → List ℕ → ℕ → List ℕ → Row
   -- a box; the plan of its session likewise
   BoxPlans : List ℕ → List ℕ → ℕ → List ℕ → Row

@@ -3,13 +3,12 @@
 use mathlib.Core.Path.{_≡_, refl, sym}
 use Prim.Native.Nat.{ℕ, _≤_}
 use native.Mathlib.Omega.{arith}
-use Rattle.families.specs.Families.{KInRange, nodeOf, firstFrom, columnOf, nodeCount}
-use Rattle.families.specs.Claims.{FamilyClaims, PairClaims, TetrahedronClaim}
-use Rattle.families.specs.declared.Family.{Family}
+use Rattle.families.specs.Families.{nodeOf, firstFrom, columnOf, nodeCount}
+use Rattle.families.specs.Claims.{FamilyClaim, PairClaim, TetrahedronClaim}
 use Rattle.families.proofs.PairLaws.{data-column, pair-column, pair-is-node}
 use Rattle.families.proofs.Laws.{few, column, column-once, node-is, node-of, above-none, zero-none, related-differ, related-turn}
 
-pub family-claims : (f : Family) (k : ℕ) → KInRange f k → FamilyClaims f k
+pub family-claims : FamilyClaim
 family-claims f k r =
     record {
       positive = λ j n. column f k j r n .positive;
@@ -29,7 +28,7 @@ family-claims f k r =
     some : (c : ℕ) → (nodeOf f k c ≡ 0 → ⊥) → 1 ≤ nodeOf f k c
     some c h = omega arith
 
-pub pair-claims : (k : ℕ) → PairClaims k
+pub pair-claims : PairClaim
 pair-claims k =
     record {
       data-blocks = data-column k;

@@ -9,7 +9,7 @@ use lib.Dec.{eqb, leb, ltb}
 use Rattle.families.specs.declared.Family.{Family}
 use Rattle.families.specs.declared.Family.the-variants.{Simplex, WeightTwo, Tetrahedron}
 
--- the family of a number: 1 simplex, 2 weight-two, 3 tetrahedron; any other is refused before it is asked
+-- the family of a number: 1 simplex, 2 weight-two, 3 tetrahedron; of any other nothing is seen, since 1 is the first check
 abbrev pub familyOf : ℕ → Family
 familyOf number = cond (eqb number 1) Simplex (cond (eqb number 2) WeightTwo Tetrahedron)
 

@@ -4,7 +4,7 @@ mod pairs;
 mod tetrahedron;
 
 ghost use mathlib.Core.Path.{_≡_};
-ghost use Prim.Native.Nat.{ℕ, _^_, _≤_, _<_};
+ghost use Prim.Native.Nat.{_^_, _<_};
 ghost use lib.Bits.{bitXor};
 ghost use Rattle.families.specs.Families.{familyOf, leastK, mostK, KInRange, IsNode, nodeCount, columnOf, nodeOf, areRelated, columnTable};
 ghost use Rattle.families.specs.declared.Family.the-variants.{Simplex};
@@ -140,6 +140,7 @@ pub fn columns(family: Family, k: usize) -> [usize; 256]
     }
 }
 
+// The same, each column worked out by itself.
 fn columns_by_node(family: Family, k: usize) -> [usize; 256]
     requires { ⌜ KInRange family k ⌝ }
     ensures { λ r. ⌜ r ≡ columnTable family k ⌝ }

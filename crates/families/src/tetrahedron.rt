@@ -1,6 +1,6 @@
 // The tetrahedron: fourteen columns, in a constant table.
 ghost use mathlib.Core.Path.{_≡_};
-ghost use Prim.Native.Nat.{ℕ, _≤_};
+ghost use Prim.Native.Nat.{_≤_};
 ghost use Rattle.families.specs.Families.{columnOf, nodeOf};
 ghost use Rattle.families.specs.declared.Family.the-variants.{Tetrahedron};
 

@@ -11,7 +11,7 @@ use Rattle.repair.specs.Boxed.{checkedBox}
 use Rattle.repair.specs.Repairs.{planIn, repairsOf}
 use Rattle.listing.specs.Text.{firstLine, stepLines, lastLine, refusalLine, tooLongLine}
 
--- the most bytes that are read, and written
+-- the most bytes that an input may have, and a box that is written
 abbrev pub mostBytes : ℕ
 mostBytes = 65536
 

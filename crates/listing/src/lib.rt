@@ -1,4 +1,5 @@
-// The lister's text: a box's parameters and live count, the steps of its plan, and what the plan comes to.
+// The lister's text: a box's parameters and live count, the steps of its plan, and what the plan comes to. Besides what both
+// programs print of an input that is turned away.
 mod lines;
 mod text;
 
@@ -12,18 +13,19 @@ ghost use mathlib.Core.Path.{_≡_};
 ghost use mathlib.Core.Bool.{false};
 ghost use mathlib.Core.List.{[], _++_};
 ghost use Prim.Native.Nat.{_+_, _≤_};
-ghost use lib.ListN.{length, drop};
+ghost use lib.ListN.{length, drop, replicate};
 ghost use Rattle.repair.specs.Session.{noStart};
 ghost use Rattle.repair.specs.Repairs.{planIn, repairsOf};
 ghost use Rattle.listing.specs.Put.{Put};
 ghost use Rattle.listing.specs.Text.{stepLines, lastLine, tooLongLine};
 ghost use Rattle.listing.specs.Listing.{answerOf, listingIn, listingOf};
 
-// The most bytes that a program reads, and that a box which it writes may have.
+// The most bytes that an input may have, and a box that is written.
 pub const MOST_BYTES: usize = 65536;
 
 // Room for one byte more than the longest box, by which a longer input is known.
 pub fn input_room() -> [u8; 65537]
+    ensures { λ r. ⌜ r ≡ replicate 65537 0 ⌝ }
     ensures { λ r. ⌜ 65537 ≡ length r ⌝ }
 {
     [0u8; 65537]

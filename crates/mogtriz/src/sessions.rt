@@ -111,6 +111,7 @@ impl MarkedSession {
         }
     }
 
+    // Whether a mark is neither 0 nor 1.
     pub fn has_other_marks(self) -> bool
         ensures { λ r. ⌜ r ≡ someAbove1 (self .live) ⌝ }
     {

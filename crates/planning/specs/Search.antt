@@ -27,7 +27,7 @@ thirdNode f k a b = nodeOf f k (bitXor (columnOf f k a) (columnOf f k b))
 unfoldable pub livePartner : Family → ℕ → List Bool → ℕ → ℕ → ℕ
 livePartner f k marks j a = cond (isLive marks (thirdNode f k j a)) (thirdNode f k j a) 0
 
--- the nodes related to two of a list
+-- the nodes related to two of a list, and 0 where two have none
 unfoldable pub thirds : Family → ℕ → List ℕ → List ℕ
 thirds f k [] = []
 thirds f k (a ∷ list) = map (thirdNode f k a) list ++ thirds f k list

@@ -1,7 +1,7 @@
 // A plan carried out on a nodes buffer.
 use base::wide;
 ghost use mathlib.Core.Path.{_≡_};
-ghost use Prim.Native.Nat.{ℕ, _*_, _≤_};
+ghost use Prim.Native.Nat.{_*_, _≤_};
 ghost use lib.ListN.{length};
 ghost use Rattle.planning.specs.Made.{AllIn, stepsIn, nodesMade};
 

@@ -6,7 +6,7 @@ use crate::worth::worth_trying;
 use families::Family;
 ghost use mathlib.Core.Path.{_≡_};
 ghost use mathlib.Core.List.{[], _∷_, _++_};
-ghost use Prim.Native.Nat.{ℕ, _+_, _*_, _≤_, _<_};
+ghost use Prim.Native.Nat.{_+_, _*_, _≤_, _<_};
 ghost use lib.ListN.{length, drop};
 ghost use borrow.Rule.Slice.PartMut.{putMid};
 ghost use Rattle.families.specs.Families.{KInRange, nodeCount, columnTable};

@@ -3,7 +3,7 @@ use crate::Repair;
 use base::wide;
 use families::Family;
 ghost use mathlib.Core.Path.{_≡_};
-ghost use Prim.Native.Nat.{ℕ, _≤_};
+ghost use Prim.Native.Nat.{_≤_};
 ghost use Rattle.families.specs.Families.{KInRange, IsNode, nodeCount, columnTable};
 ghost use Rattle.planning.specs.Search.{RoundBegins, livePartner, worthTrying, nextNode, repairOf};
 

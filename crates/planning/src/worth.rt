@@ -5,7 +5,7 @@ use families::Family;
 ghost use mathlib.Core.Path.{_≡_};
 ghost use mathlib.Core.Bool.{false};
 ghost use mathlib.Core.List.{map};
-ghost use Prim.Native.Nat.{ℕ, _+_, _<_};
+ghost use Prim.Native.Nat.{_+_, _<_};
 ghost use lib.ListN.{length, getD, drop};
 ghost use Rattle.families.specs.Families.{KInRange, nodeCount, columnTable};
 ghost use Rattle.lists.specs.Lists.{someOutside, setLive};

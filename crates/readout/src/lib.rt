@@ -1,7 +1,7 @@
 // The data blocks of an object, out of the nodes that hold one each.
 use families::Family;
 ghost use mathlib.Core.Path.{_≡_};
-ghost use Prim.Native.Nat.{ℕ, _*_, _≤_};
+ghost use Prim.Native.Nat.{_*_, _≤_};
 ghost use lib.ListN.{length};
 ghost use Rattle.families.specs.Families.{KInRange, nodeCount};
 ghost use Rattle.readout.specs.DataBlocks.{dataNode, missingBlock, dataBlocks};

@@ -16,15 +16,15 @@ use Rattle.checks.proofs.Laws.{InRange, accepted, range-of}
 use Rattle.encoding.specs.Matrix.{nodesBuffer}
 use Rattle.lists.specs.Lists.{someOutside, liveNodes, liveOutside}
 use Rattle.lists.proofs.Laws.{live-of-list, marks-of-live-nodes, list-outside-none, outside-more}
-use Rattle.boxes.specs.Box.{lengthIn, heldIn, boxLength}
+use Rattle.boxes.specs.Box.{familyIn, kIn, lengthIn, namesIn, heldIn, boxLength}
 use Rattle.boxes.proofs.Answers.{by-length}
 use Rattle.boxes.proofs.Laws.{accepted-box, parameters-in}
 use Rattle.readout.proofs.Laws.{blocks-of-encoded}
 use Rattle.repair.specs.declared.Session.{Session}
-use Rattle.repair.specs.Session.{sessionOf, startChecks, nodesOf, noStart, nodesChecks}
-use Rattle.repair.specs.Boxed.{nodesRead, listed}
+use Rattle.repair.specs.Session.{sessionOf, startChecks, started, nodesOf, noStart, nodesChecks}
+use Rattle.repair.specs.Boxed.{checkedBox, nodesRead, listed}
 use Rattle.repair.specs.ReadOut.{missingIn, readOutChecks}
-use Rattle.repair.specs.Claims.{FromStart, NoStartClaim, StartMarksClaim, boxWritten, WriteReadClaim, ReadWriteClaim, RoundTripClaim, BoxClaim, WrongCountClaim}
+use Rattle.repair.specs.Claims.{FromStart, NoStartClaim, StartMarksClaim, boxWritten, WriteReadClaim, ReadWriteClaim, RoundTripClaim, BoxStartClaim, BoxClaim, WrongCountClaim}
 use Rattle.repair.proofs.StartLaws.{known, start-0, no-start-marks, accepted-start}
 use Rattle.repair.proofs.ReadOutLaws.{read}
 use Rattle.repair.proofs.RoundTripLaws.{live-good, accepted-write, box-checked, box-reads, bodies-read, again-all, again-named}
@@ -53,6 +53,12 @@ no-start-claim s size = (from, back)
         no-start-marks s (parameters-in (s .family) (s .k) (s .len) (a .range))
         ∙ sym (ap (λ (t : Session). liveOutside (nodesOf s) (t .live)) (f .gives))
         ∙ list-outside-none (nodesOf s) (f .list) (few (familyOf (s .family)) (s .k) (a .range .blocks)) (a .outside)
+
+pub box-start-claim : BoxStartClaim
+unfolding checkedBox started
+box-start-claim bytes e =
+    let a = accepted-box bytes e in
+    rw (e, start-0 (familyIn bytes) (kIn bytes) (lengthIn bytes) (namesIn bytes) (parameters-in (familyIn bytes) (kIn bytes) (lengthIn bytes) (a .range)) (a .nodes) (a .rising))
 
 pub start-marks-claim : StartMarksClaim
 start-marks-claim family k L list e j h =

@@ -14,7 +14,7 @@ use Rattle.encoding.specs.Matrix.{nodesBuffer}
 use Rattle.lists.specs.Lists.{isLive, placeIn}
 use Rattle.boxes.specs.Box.{familyIn, kIn, lengthIn, heldIn, zerosIn, namesIn, bodiesIn, boxLength, boxChecks}
 use Rattle.repair.specs.declared.Session.{Session}
-use Rattle.repair.specs.Session.{sessionOf, startChecks, nodesOf, noStart}
+use Rattle.repair.specs.Session.{sessionOf, startChecks, started, nodesOf, noStart}
 use Rattle.repair.specs.Boxed.{sessionIn, checkedBox, readChecks, nodesRead, listed, writtenLength, writeChecks, outWritten}
 use Rattle.repair.specs.ReadOut.{readOutChecks, objectOut}
 
@@ -72,9 +72,13 @@ RoundTripClaim = (s : Session) (object list out other result : List ℕ) → len
     → objectOut (sessionOf (s .family) (s .k) (s .len) (listed s list))
     (nodesRead (boxWritten s (nodesBuffer (familyOf (s .family)) (s .k) (s .len) object) list out) other) result ≡ object
 
--- ---- the body of a node
+-- ---- a box and its session
 
--- in an accepted box the numbers of nodes and bodies are E, and the length is as E says
+-- an accepted box gives the session that the start with its family, k, L and node numbers gives
+abbrev pub BoxStartClaim : Type 0
+BoxStartClaim = (bytes : List ℕ) → firstMet (boxChecks bytes) ≡ 0 → checkedBox bytes ≡ started (familyIn bytes) (kIn bytes) (lengthIn bytes) (namesIn bytes)
+
+-- in an accepted box the numbers of nodes and of bodies are both E
 pub record BoxClaims (bytes : List ℕ) : Type 0 where
   pub names : length (namesIn bytes) ≡ heldIn bytes
   pub bodies : length (bodiesIn bytes) ≡ heldIn bytes * lengthIn bytes

@@ -37,6 +37,6 @@ nodesOf s = nodeCount (familyOf (s .family)) (s .k)
 unfoldable pub noStart : Session → Bool
 noStart s = not (eqb (firstMet (parameterChecks (s .family) (s .k) (s .len))) 0) || liveOutside (nodesOf s) (s .live)
 
--- 13, then 6 where the nodes buffer is not n × L bytes: what every operation on a nodes buffer begins with
+-- 13, then 6 where the nodes buffer is not n × L bytes: what every operation of a session on a nodes buffer begins with
 unfoldable pub nodesChecks : Session → ℕ → List Check
 nodesChecks s nodesLength = (noStart s gives 13) ∷ (not (eqb nodesLength (nodesOf s * s .len)) gives 6) ∷ []
