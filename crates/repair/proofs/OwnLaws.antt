@@ -1,7 +1,7 @@
 -- Steps and runs as calls on a session and a nodes buffer: a run is its plan's steps, and both keep the object's own blocks.
 -- Assumes nothing.
 use mathlib.Core.Path.{_≡_, refl, sym, ap, ap₂, _∙_, subst}
-use mathlib.Core.Bool.{Bool, true, false, not, _||_}
+use mathlib.Core.Bool.{Bool, true, false, not, _||_, false≢true}
 use mathlib.Core.List.{List, [], _∷_, map}
 use Prim.Native.Nat.{ℕ, zero, suc, _+_, _-_, _*_, _≤_, _<_}
 use native.Mathlib.Decide.{ℕ-discrete}
@@ -9,8 +9,9 @@ use native.Mathlib.Omega.{arith}
 use borrow.Author.Tests.{eqb-true, not-false}
 use lib.Dec.{eqb}
 use lib.ListN.{length, set, length-set}
-use lib.Seq.{getD-set-other}
+use lib.Seq.{getD-set-same, getD-set-other}
 use Rattle.families.specs.Families.{familyOf, IsNode, columnOf}
+use Rattle.families.proofs.Laws.{few}
 use Rattle.blocks.specs.Blocks.{xorBytes, blockOf, InBuffer}
 use Rattle.blocks.proofs.BlockLaws.{in-buffer, blockOf-same, blockOf-other}
 use Rattle.blocks.proofs.PartLaws.{length-blockOf}
@@ -20,6 +21,7 @@ use Rattle.checks.proofs.Laws.{accepted}
 use Rattle.encoding.specs.Matrix.{nodeBlock, nodesBuffer}
 use Rattle.encoding.proofs.Nodes.{related-block, buffer-block}
 use Rattle.lists.specs.Lists.{isLive, setLive, someLive, liveOutside}
+use Rattle.lists.proofs.MarkLaws.{live-keeps}
 use Rattle.planning.specs.Claims.{CanMakeAll}
 use Rattle.planning.specs.Made.{mended, nodesMade}
 use Rattle.planning.specs.Plan.{Step, repairedNodes}
@@ -76,6 +78,22 @@ module _ (s : Session) (nodes : List ℕ) (made : Step) (w : AcceptedStep s node
   in-nodes : (i : ℕ) → IsNode (familyOf (s .family)) (s .k) i → InBuffer (s .len) nodes i
   in-nodes i n = in-buffer (s .len) nodes (nodesOf s) i (w .buffer .size) (n .first) (n .last)
 
+  abbrev block : List ℕ
+  block = xorBytes (blockOf (s .len) nodes (made .smaller)) (blockOf (s .len) nodes (made .larger))
+
+  full : length block ≡ s .len
+  full =
+      let a = length-blockOf (in-nodes (made .smaller) (w .makes .smaller)) in
+      let b = length-blockOf (in-nodes (made .larger) (w .makes .larger)) in
+      length-xorBytes (blockOf (s .len) nodes (made .smaller)) (blockOf (s .len) nodes (made .larger)) (a ∙ sym b) ∙ a
+
+  -- the block of its node is the XOR of the two, and any other is as it was
+  block-made : blockOf (s .len) (nodesWith s nodes made) (made .node) ≡ block
+  block-made = blockOf-same (s .len) nodes (made .node) block (in-nodes (made .node) (w .makes .node)) full
+
+  block-kept : (i : ℕ) → IsNode (familyOf (s .family)) (s .k) i → (i ≡ made .node → ⊥) → blockOf (s .len) (nodesWith s nodes made) i ≡ blockOf (s .len) nodes i
+  block-kept i n d = blockOf-other (s .len) nodes (made .node) block (in-nodes (made .node) (w .makes .node)) full i (n .first) d
+
   sized-stepped : Sized (sessionWith s made) (length (nodesWith s nodes made))
   sized-stepped =
       let m = w .makes in
@@ -102,6 +120,22 @@ unfolding nodesMade setLive
 steps-sized s nodes [] z a = z
 steps-sized s nodes (x ∷ steps) z a = steps-sized (sessionWith s x) (nodesWith s nodes x) steps (sized-stepped s nodes x (record { buffer = z; makes = a .0 })) (a .1)
 
+-- the blocks of nodes that are missing after them are as they were
+steps-keep : (s : Session) (nodes : List ℕ) (steps : List Step) → Sized s (length nodes) → length (s .live) ≡ 256 → CanMakeAll (familyOf (s .family)) (s .k) (s .live) steps
+    → (j : ℕ) → IsNode (familyOf (s .family)) (s .k) j → isLive (setLive (s .live) (repairedNodes steps)) j ≡ false
+    → blockOf (s .len) (nodesMade (s .len) nodes steps) j ≡ blockOf (s .len) nodes j
+unfolding nodesMade setLive
+steps-keep s nodes [] z size a j n m = refl
+steps-keep s nodes (x ∷ steps) z size a j n m =
+    let w : AcceptedStep s nodes x = record { buffer = z; makes = a .0 } in
+    let here = getD-set-same (s .live) (x .node) true false (omega (arith, size, x-few w)) in
+    let d : j ≡ x .node → ⊥ = λ e. false≢true (sym m ∙ live-keeps (set (s .live) (x .node) true) (repairedNodes steps) j (rw e here)) in
+    steps-keep (sessionWith s x) (nodesWith s nodes x) steps (sized-stepped s nodes x w) (length-set (s .live) (x .node) true ∙ size) (a .1) j n m
+    ∙ block-kept s nodes x w j n d
+  where
+    x-few : AcceptedStep s nodes x → x .node ≤ 255
+    x-few w = omega (arith, w .makes .node .last, few (familyOf (s .family)) (s .k) (known s (w .buffer .starts) .range .blocks))
+
 module _ (s : Session) (nodes : List ℕ) (e : firstMet (runChecks s nodes) ≡ 0) where
   -- what an accepted run says
   run-sized : Sized s (length nodes)
@@ -122,6 +156,12 @@ module _ (s : Session) (nodes : List ℕ) (e : firstMet (runChecks s nodes) ≡ 
   nodes-ran : nodesRan s nodes ≡ nodesMade (s .len) nodes (planIn s)
   unfolding nodesRan
   nodes-ran = rw e
+
+  pub run-keeps : length (s .live) ≡ 256 → (j : ℕ) → IsNode (familyOf (s .family)) (s .k) j → isLive (ran s nodes .session .live) j ≡ false
+      → blockOf (s .len) (nodesRan s nodes) j ≡ blockOf (s .len) nodes j
+  run-keeps size j n m =
+      rw nodes-ran (steps-keep s nodes (planIn s) run-sized size (plan-claim (familyOf (s .family)) (s .k) (run-known .range .blocks) (s .live) size .makes) j n
+      (rw session-ran at m))
 
   pub run-steps : length (s .live) ≡ 256 → heldAfter s nodes (map asMove (planIn s)) ≡ record { session = ran s nodes .session; nodes = nodesRan s nodes }
   run-steps size =
@@ -170,20 +210,8 @@ module _ (object : List ℕ) where
       own : ℕ → List ℕ
       own i = nodeBlock (s .k) (s .len) object (columnOf (familyOf (s .family)) (s .k) i)
 
-      block : List ℕ
-      block = xorBytes (blockOf (s .len) nodes (made .smaller)) (blockOf (s .len) nodes (made .larger))
-
-      there : (i : ℕ) → IsNode (familyOf (s .family)) (s .k) i → InBuffer (s .len) nodes i
-      there = in-nodes s nodes made w
-
-      full : length block ≡ s .len
-      full =
-          let a = length-blockOf (there (made .smaller) (w .makes .smaller)) in
-          let b = length-blockOf (there (made .larger) (w .makes .larger)) in
-          length-xorBytes (blockOf (s .len) nodes (made .smaller)) (blockOf (s .len) nodes (made .larger)) (a ∙ sym b) ∙ a
-
       -- the block that is made is the node's own
-      is-own : block ≡ own (made .node)
+      is-own : block s nodes made w ≡ own (made .node)
       is-own =
           let m = w .makes in
           ap₂ xorBytes (o .live (made .smaller) (m .smaller) (m .smaller-live)) (o .live (made .larger) (m .larger) (m .larger-live))
@@ -191,9 +219,9 @@ module _ (object : List ℕ) where
 
       go : (i : ℕ) → IsNode (familyOf (s .family)) (s .k) i → isLive (set (s .live) (made .node) true) i ≡ true → Dec (i ≡ made .node)
           → blockOf (s .len) (nodesWith s nodes made) i ≡ own i
-      go i n v (yes e) = rw e (blockOf-same (s .len) nodes (made .node) block (there (made .node) (w .makes .node)) full ∙ is-own)
+      go i n v (yes e) = rw e (block-made s nodes made w ∙ is-own)
       go i n v (no d) =
-          blockOf-other (s .len) nodes (made .node) block (there (made .node) (w .makes .node)) full i (n .first) d
+          block-kept s nodes made w i n d
           ∙ o .live i n (sym (getD-set-other (s .live) (made .node) i true false d) ∙ v)
 
   -- a call that is turned away changes nothing

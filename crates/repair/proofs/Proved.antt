@@ -24,10 +24,10 @@ use Rattle.repair.specs.declared.Session.{Session}
 use Rattle.repair.specs.Session.{sessionOf, startChecks, started, nodesOf, noStart, nodesChecks}
 use Rattle.repair.specs.Boxed.{checkedBox, nodesRead, listed}
 use Rattle.repair.specs.ReadOut.{missingIn, readOutChecks}
-use Rattle.repair.specs.Claims.{FromStart, NoStartClaim, StartMarksClaim, boxWritten, WriteReadClaim, ReadWriteClaim, RoundTripClaim, BoxStartClaim, BoxClaim, WrongCountClaim}
+use Rattle.repair.specs.Claims.{FromStart, NoStartClaim, StartMarksClaim, boxWritten, WriteReadClaim, ReadKeepsClaim, ReadWriteClaim, RoundTripClaim, BoxStartClaim, BoxClaim, WrongCountClaim}
 use Rattle.repair.proofs.StartLaws.{known, start-0, no-start-marks, accepted-start}
 use Rattle.repair.proofs.ReadOutLaws.{read}
-use Rattle.repair.proofs.RoundTripLaws.{live-good, accepted-write, box-checked, box-reads, bodies-read, again-all, again-named}
+use Rattle.repair.proofs.RoundTripLaws.{live-good, accepted-write, box-checked, box-reads, bodies-read, read-keeps, again-all, again-named}
 use Rattle.repair.proofs.ListedLaws.{listed-blocks}
 
 -- ---- start
@@ -70,6 +70,9 @@ start-marks-claim family k L list e j h =
 pub write-read-claim : WriteReadClaim
 write-read-claim s nodes list out e =
     record { checks = box-checked s nodes list out e; reads = box-reads s nodes list out e; bodies = bodies-read s nodes list out e }
+
+pub read-keeps-claim : ReadKeepsClaim
+read-keeps-claim bytes nodes e j p n = read-keeps bytes nodes e j p n
 
 pub read-write-claim : ReadWriteClaim
 read-write-claim bytes nodes out byte e room = (again-all bytes nodes e byte out room, again-named bytes nodes e byte out room)

@@ -7,8 +7,8 @@ use Rattle.planning.specs.Pairs.{NoPairLeft}
 use Rattle.planning.proofs.Proved.{plan-claim}
 use Rattle.repair.specs.declared.Session.{Session}
 use Rattle.repair.specs.Calls.{step, run, heldAfter}
-use Rattle.repair.specs.RepairClaims.{StaysClaim, RunIsStepsClaim, RunEndsClaim, OwnClaim}
-use Rattle.repair.proofs.OwnLaws.{stays-stepped, stays-ran, run-known, session-ran, run-steps, OwnHeld, own-moves, own-out}
+use Rattle.repair.specs.RepairClaims.{StaysClaim, RunIsStepsClaim, RunEndsClaim, PlacesKeptClaim, OwnClaim}
+use Rattle.repair.proofs.OwnLaws.{stays-stepped, stays-ran, run-known, session-ran, run-steps, run-keeps, OwnHeld, own-moves, own-out}
 
 pub stays-claim : StaysClaim
 stays-claim s size starts nodes (step j a b) = stays-stepped s starts nodes j a b
@@ -21,6 +21,9 @@ pub run-ends : RunEndsClaim
 run-ends s size nodes e =
     subst (λ (after : Session). NoPairLeft (familyOf (s .family)) (s .k) (isLive (after .live))) (sym (session-ran s nodes e))
     (plan-claim (familyOf (s .family)) (s .k) (run-known s nodes e .range .blocks) (s .live) size .ends)
+
+pub places-kept : PlacesKeptClaim
+places-kept s size nodes e j n m = run-keeps s nodes e size j n m
 
 pub own-claim : OwnClaim
 own-claim object s nodes marks size live moves =

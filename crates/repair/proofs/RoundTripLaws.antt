@@ -20,11 +20,11 @@ use Rattle.boxes.specs.Box.{familyIn, kIn, lengthIn, namesIn, bodiesIn, nodesIn
 use Rattle.boxes.specs.Bodies.{bodiesOf, boxOf, withBodies}
 use Rattle.boxes.specs.Places.{ListIn}
 use Rattle.boxes.proofs.Answers.{none-zero, box-none}
-use Rattle.boxes.proofs.Laws.{AcceptedBox, accepted-box, box-accepted, FieldsOf, fields-of, box-of-fields, length-boxOf, length-withBodies, bodies-there, bodies-same, list-in, parameters-in}
+use Rattle.boxes.proofs.Laws.{AcceptedBox, accepted-box, box-accepted, FieldsOf, fields-of, box-of-fields, length-boxOf, length-withBodies, bodies-there, bodies-same, bodies-other, list-in, parameters-in}
 use Rattle.repair.specs.declared.Session.{Session}
 use Rattle.repair.specs.Session.{sessionOf, nodesOf, noStart, nodesChecks}
-use Rattle.repair.specs.Boxed.{sessionIn, checkedBox, readChecks, nodesRead, listed, writtenLength, writeChecks, outWritten}
-use Rattle.repair.specs.Claims.{boxWritten}
+use Rattle.repair.specs.Boxed.{sessionIn, checkedBox, readChecks, nodesRead, listed, writtenLength, writeChecks, written, outWritten}
+use Rattle.repair.specs.Claims.{boxWritten, WrittenAgain}
 use Rattle.repair.proofs.StartLaws.{known, no-start-marks}
 
 -- ---- the nodes that are written
@@ -180,6 +180,10 @@ module _ (bytes nodes : List ℕ) (e : firstMet (readChecks bytes nodes) ≡ 0) 
   pub read-size : length (nodesRead bytes nodes) ≡ nodesIn bytes * lengthIn bytes
   read-size = rw read-is (length-withBodies (lengthIn bytes) nodes (namesIn bytes) (bodiesIn bytes) names-in bodies-held ∙ accepted-read bytes nodes e .size)
 
+  pub read-keeps : (j : ℕ) → 1 ≤ j → ((i : ℕ) → i < length (namesIn bytes) → getD (namesIn bytes) i 0 ≡ j → ⊥)
+      → blockOf (lengthIn bytes) (nodesRead bytes nodes) j ≡ blockOf (lengthIn bytes) nodes j
+  read-keeps j p n = rw read-is (bodies-other (lengthIn bytes) nodes (namesIn bytes) (bodiesIn bytes) j names-in bodies-held p n)
+
   module _ (byte : (i : ℕ) → getD bytes i 0 < 256) (out : List ℕ) (room : length bytes ≤ length out) where
     -- the box of what was read is the box
     box-again : boxOf (familyIn bytes) (kIn bytes) (lengthIn bytes) (namesIn bytes) (nodesRead bytes nodes) ≡ bytes
@@ -189,18 +193,18 @@ module _ (bytes nodes : List ℕ) (e : firstMet (readChecks bytes nodes) ≡ 0) 
 
     -- by a list that stands for the named nodes
     again : (list : List ℕ) → Good (nodesIn bytes) list → someMissing (sessionIn bytes .live) list ≡ false → listed (sessionIn bytes) list ≡ namesIn bytes
-        → outWritten (sessionIn bytes) (nodesRead bytes nodes) list out ≡ bytes ++ drop (length bytes) out
-    unfolding outWritten writeChecks nodesChecks
+        → WrittenAgain bytes nodes list out
+    unfolding written outWritten writeChecks nodesChecks
     again list g m q =
         let long : writtenLength (sessionIn bytes) list ≡ length bytes = rw (q, passed .names-size) (sym (passed .size)) in
         let none : firstMet (writeChecks (sessionIn bytes) (nodesRead bytes nodes) list out) ≡ 0
         = none-zero (writeChecks (sessionIn bytes) (nodesRead bytes nodes) list out)
         (box-starts bytes passed, (ap not (eq-eqb _ _ read-size), (g .outside, (ap not (g .rising), (m, (le-ltb (length out) (writtenLength (sessionIn bytes) list) (omega arith), tt)))))) in
-        rw (none, long, q, box-again)
+        record { answer = rw (none, long); box = rw (none, long, q, box-again) }
 
-    pub again-all : outWritten (sessionIn bytes) (nodesRead bytes nodes) [] out ≡ bytes ++ drop (length bytes) out
+    pub again-all : WrittenAgain bytes nodes [] out
     unfolding someOutside rises someMissing
     again-all = again [] (record { outside = refl; rising = refl }) refl (all-listed bytes passed)
 
-    pub again-named : outWritten (sessionIn bytes) (nodesRead bytes nodes) (namesIn bytes) out ≡ bytes ++ drop (length bytes) out
+    pub again-named : WrittenAgain bytes nodes (namesIn bytes) out
     again-named = again (namesIn bytes) (record { outside = passed .nodes; rising = passed .rising }) (names-live bytes passed) (names-listed bytes passed)

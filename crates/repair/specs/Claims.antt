@@ -15,7 +15,7 @@ use Rattle.lists.specs.Lists.{isLive, placeIn}
 use Rattle.boxes.specs.Box.{familyIn, kIn, lengthIn, heldIn, zerosIn, namesIn, bodiesIn, boxLength, boxChecks}
 use Rattle.repair.specs.declared.Session.{Session}
 use Rattle.repair.specs.Session.{sessionOf, startChecks, started, nodesOf, noStart}
-use Rattle.repair.specs.Boxed.{sessionIn, checkedBox, readChecks, nodesRead, listed, writtenLength, writeChecks, outWritten}
+use Rattle.repair.specs.Boxed.{sessionIn, checkedBox, readChecks, nodesRead, listed, writtenLength, writeChecks, written, outWritten}
 use Rattle.repair.specs.ReadOut.{readOutChecks, objectOut}
 
 -- ---- start
@@ -53,11 +53,21 @@ WriteReadClaim = (s : Session) (nodes list out : List ℕ) → firstMet (writeCh
 
 -- ---- read, then write
 
+-- places of nodes that are not in the box keep their bytes
+abbrev pub ReadKeepsClaim : Type 0
+ReadKeepsClaim = (bytes nodes : List ℕ) → firstMet (readChecks bytes nodes) ≡ 0
+    → (j : ℕ) → 1 ≤ j → ((i : ℕ) → i < length (namesIn bytes) → getD (namesIn bytes) i 0 ≡ j → ⊥)
+    → blockOf (lengthIn bytes) (nodesRead bytes nodes) j ≡ blockOf (lengthIn bytes) nodes j
+
+-- what was read from a box is written by a list: it is accepted, and has the length and the bytes of the box
+pub record WrittenAgain (bytes nodes list out : List ℕ) : Type 0 where
+  pub answer : written (sessionIn bytes) (nodesRead bytes nodes) list out ≡ record { refusal = 0; length = length bytes; session = sessionIn bytes }
+  pub box : outWritten (sessionIn bytes) (nodesRead bytes nodes) list out ≡ bytes ++ drop (length bytes) out
+
 -- an accepted box, read and written again before any repair, has the same bytes, by an empty list and by its own
 abbrev pub ReadWriteClaim : Type 0
 ReadWriteClaim = (bytes nodes out : List ℕ) → ((i : ℕ) → getD bytes i 0 < 256) → firstMet (readChecks bytes nodes) ≡ 0 → length bytes ≤ length out
-    → (outWritten (sessionIn bytes) (nodesRead bytes nodes) [] out ≡ bytes ++ drop (length bytes) out)
-    × (outWritten (sessionIn bytes) (nodesRead bytes nodes) (namesIn bytes) out ≡ bytes ++ drop (length bytes) out)
+    → WrittenAgain bytes nodes [] out × WrittenAgain bytes nodes (namesIn bytes) out
 
 -- ---- encode, write, read, read out
 

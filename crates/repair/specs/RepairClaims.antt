@@ -40,6 +40,12 @@ abbrev pub RunEndsClaim : Type 0
 RunEndsClaim = (s : Session) → length (s .live) ≡ 256 → (nodes : List ℕ) → firstMet (runChecks s nodes) ≡ 0
     → NoPairLeft (familyOf (s .family)) (s .k) (isLive (ran s nodes .session .live))
 
+-- places of nodes left keep their bytes
+abbrev pub PlacesKeptClaim : Type 0
+PlacesKeptClaim = (s : Session) → length (s .live) ≡ 256 → (nodes : List ℕ) → firstMet (runChecks s nodes) ≡ 0
+    → (j : ℕ) → IsNode (familyOf (s .family)) (s .k) j → isLive (ran s nodes .session .live) j ≡ false
+    → blockOf (s .len) (nodesRan s nodes) j ≡ blockOf (s .len) nodes j
+
 -- ---- the object's own blocks (demand 2)
 
 -- every live block is the one that the matrix gives for the object
