@@ -1,36 +1,20 @@
 -- What the checks of a box and of a body give, check by check.
 -- Assumes nothing.
 use mathlib.Core.Path.{_≡_, refl, _∙_}
-use mathlib.Core.Bool.{true, false, true≢false}
+use mathlib.Core.Bool.{true, false}
 use mathlib.Core.List.{List, [], _∷_, _++_}
 use Prim.Native.Nat.{ℕ, _+_, _*_, _≤_, _<_}
 use native.Mathlib.Omega.{arith}
 use borrow.Author.Tests.{lt-ltb, le-ltb, eq-eqb, ne-eqb, ltb-true, not-false}
 use lib.ListN.{length, take, drop, length-drop}
-use lib.Seq.{length-take-le, drop-drop}
+use lib.Seq.{length-take-le}
 use Rattle.checks.specs.Checks.{Check, _gives_, firstMet}
 use Rattle.checks.specs.Claims.{NoneMet}
 use Rattle.checks.specs.Parameters.{parameterChecks}
-use Rattle.checks.proofs.Laws.{accepted, parameters-none, none-append, some-append, outside-low, outside-high, outside-no}
+use Rattle.checks.proofs.Laws.{accepted, parameters-none, none-zero, none-left, none-right, none-append, some-append, outside-low, outside-high, outside-no}
 use Rattle.lists.specs.Lists.{placeIn}
-use Rattle.boxes.specs.Box.{familyIn, kIn, lengthIn, heldIn, zerosIn, namesIn, nodesIn, boxLength, boxChecks, bodyChecks, bodyOf}
+use Rattle.boxes.specs.Box.{familyIn, kIn, lengthIn, heldIn, zerosIn, namesIn, nodesIn, boxLength, boxChecks, bodyChecks, bodyStart, bodyOf}
 use Rattle.boxes.specs.Names.{nameChecks}
-
--- ---- lists of checks
-
-pub none-zero : (checks : List Check) → NoneMet checks → firstMet checks ≡ 0
-unfolding firstMet
-none-zero [] n = refl
-none-zero ((true gives r) ∷ checks) n = absurd (true≢false (n .0))
-none-zero ((false gives r) ∷ checks) n = none-zero checks (n .1)
-
-none-left : (checks later : List Check) → NoneMet (checks ++ later) → NoneMet checks
-none-left [] later n = tt
-none-left ((met gives r) ∷ checks) later n = (n .0, none-left checks later (n .1))
-
-none-right : (checks later : List Check) → NoneMet (checks ++ later) → NoneMet later
-none-right [] later n = n
-none-right ((met gives r) ∷ checks) later n = none-right checks later (n .1)
 
 -- ---- a box
 
@@ -127,6 +111,6 @@ module _ (bytes : List ℕ) (j : ℕ) where
   unfolding bodyOf
   body-empty n = rw (ne-eqb (firstMet (bodyChecks bytes j)) 0 n)
 
-  pub body-part : firstMet (bodyChecks bytes j) ≡ 0 → take (lengthIn bytes) (drop (8 + heldIn bytes + placeIn (namesIn bytes) j * lengthIn bytes) bytes) ≡ bodyOf bytes j
+  pub body-part : firstMet (bodyChecks bytes j) ≡ 0 → take (lengthIn bytes) (drop (bodyStart bytes j) bytes) ≡ bodyOf bytes j
   unfolding bodyOf
-  body-part e = rw (e, drop-drop (placeIn (namesIn bytes) j * lengthIn bytes) (8 + heldIn bytes) bytes)
+  body-part e = rw e

@@ -12,19 +12,21 @@ use lib.ListN.{length, getD, take, drop, length-append, length-drop, take-append
 use lib.Seq.{take-at, take-append-seam, drop-append-seam, drop-append-add, drop-cons, drop-drop, length-take-le}
 use borrow.Rule.Slice.PartMut.{midOf}
 use Rattle.base.proofs.Tests.{and-left, and-right, or-neither}
-use Rattle.families.specs.Families.{familyOf, nodeCount, leastK, mostK}
+use Rattle.families.specs.Families.{familyOf, nodeCount}
 use Rattle.checks.specs.Checks.{firstMet}
-use Rattle.checks.specs.Parameters.{mostL, outside, parameterChecks}
-use Rattle.checks.proofs.Laws.{InRange, inside, outside-no, range-of}
+use Rattle.checks.specs.Parameters.{outside, parameterChecks}
+use Rattle.checks.specs.Claims.{InRange}
+use Rattle.checks.proofs.Laws.{inside, none-zero, range-of, parameters-in}
 use Rattle.lists.specs.Lists.{someOutside, rises, placeIn}
 use Rattle.blocks.specs.Blocks.{blockOf, withBlock, InBuffer}
 use Rattle.blocks.proofs.BlockLaws.{length-withBlock, blockOf-same, blockOf-other, in-buffer}
 use Rattle.blocks.proofs.PartLaws.{length-blockOf}
-use Rattle.boxes.specs.Box.{familyIn, kIn, lengthIn, heldIn, zerosIn, namesIn, bodiesIn, nodesIn, boxLength, boxChecks, bodyChecks, bodyStart}
+use Rattle.boxes.specs.Box.{familyIn, kIn, lengthIn, heldIn, zerosIn, namesIn, bodiesIn, nodesIn, boxLength, boxChecks, bodyChecks, bodyPlace, bodyStart}
 use Rattle.boxes.specs.Bodies.{bodiesOf, boxOf, withBodies}
 use Rattle.boxes.specs.Places.{ListIn}
 use Rattle.boxes.specs.Names.{nameChecks}
-use Rattle.boxes.proofs.Answers.{parametersOf, box-none, none-zero, length-names, by-names, accepted-body}
+use Rattle.boxes.specs.Claims.{AcceptedBox}
+use Rattle.boxes.proofs.Answers.{parametersOf, box-none, length-names, by-names, accepted-body}
 
 -- ---- lists of nodes
 
@@ -146,17 +148,6 @@ bodies-same L nodes other list i r h g l =
 
 -- ---- an accepted box
 
--- the length, the range of family, k and L, and the node numbers are as document 01 says
-pub record AcceptedBox (bytes : List ℕ) : Type 0 where
-  pub size : length bytes ≡ boxLength (heldIn bytes) (lengthIn bytes)
-  pub range : InRange (familyIn bytes) (kIn bytes) (lengthIn bytes)
-  pub zeros : zerosIn bytes ≡ true
-  pub few-held : heldIn bytes ≤ nodesIn bytes
-  pub nodes : someOutside (nodesIn bytes) (namesIn bytes) ≡ false
-  pub rising : rises (namesIn bytes) ≡ true
-  pub names-size : length (namesIn bytes) ≡ heldIn bytes
-  pub bodies-size : length (bodiesIn bytes) ≡ heldIn bytes * lengthIn bytes
-
 pub accepted-box : (bytes : List ℕ) → firstMet (boxChecks bytes) ≡ 0 → AcceptedBox bytes
 unfolding boxChecks parameterChecks
 accepted-box bytes e =
@@ -179,11 +170,19 @@ accepted-box bytes e =
 pub has-names : (bytes : List ℕ) → firstMet (boxChecks bytes) ≡ 0 → (8 ≤ length bytes) × (8 + heldIn bytes ≤ length bytes)
 has-names bytes e = let b = accepted-box bytes e in (omega (arith, b .size), omega (arith, b .size))
 
--- a body that is not refused ends by the end of the box
-pub body-within : (bytes : List ℕ) (j : ℕ) → firstMet (bodyChecks bytes j) ≡ 0 → bodyStart bytes j + lengthIn bytes ≤ length bytes
-body-within bytes j e =
-    let b = accepted-body bytes j e in
-    omega (arith, accepted-box bytes (b .accepted-box) .size, body-fits (lengthIn bytes) (placeIn (namesIn bytes) j) (heldIn bytes) (b .place))
+-- a body that is not refused has a place among those held, and ends by the end of the box
+module _ (bytes : List ℕ) (j : ℕ) (e : firstMet (bodyChecks bytes j) ≡ 0) where
+  pub body-box : AcceptedBox bytes
+  body-box = accepted-box bytes (accepted-body bytes j e .accepted-box)
+
+  pub body-named : placeIn (namesIn bytes) j < length (namesIn bytes)
+  body-named = omega (arith, accepted-body bytes j e .place, body-box .names-size)
+
+  pub body-held : bodyPlace (namesIn bytes) j < heldIn bytes
+  body-held = omega (arith, body-named, body-box .names-size)
+
+  pub body-within : bodyStart bytes j + lengthIn bytes ≤ length bytes
+  body-within = omega (arith, body-box .size, body-fits (lengthIn bytes) (bodyPlace (namesIn bytes) j) (heldIn bytes) body-held)
 
 -- ---- the box of a list of nodes
 
@@ -213,17 +212,6 @@ fields-of family k L list nodes =
       names-is = take-append-seam list (bodiesOf L nodes list);
       bodies-is = sym (drop-drop (length list) 8 (boxOf family k L list nodes)) ∙ drop-append-seam list (bodiesOf L nodes list);
     }
-
-pub parameters-in : (family k L : ℕ) → InRange family k L → firstMet (parameterChecks family k L) ≡ 0
-unfolding parameterChecks
-parameters-in family k L r =
-    none-zero (parameterChecks family k L) (
-      outside-no 1 3 family (r .first) (r .last),
-      (
-        outside-no (leastK (familyOf family)) (mostK (familyOf family)) k (r .blocks .least) (r .blocks .most),
-        (outside-no 1 mostL L (r .some) (r .most), tt),
-      ),
-    )
 
 -- and it is accepted
 pub box-accepted : (family k L : ℕ) (list nodes : List ℕ) → InRange family k L

@@ -60,11 +60,14 @@ bodyChecks bytes j =
     ∷ (not (ltb (placeIn (namesIn bytes) j) (heldIn bytes)) gives 12)
     ∷ [])
 
--- where the body of node j begins: after the node numbers, at its place among the named nodes
-abbrev pub bodyStart : List ℕ → ℕ → ℕ
-bodyStart bytes j = 8 + heldIn bytes + placeIn (namesIn bytes) j * lengthIn bytes
+-- the place of node j's body among the bodies, from 0: that of its number among the node numbers
+abbrev pub bodyPlace : List ℕ → ℕ → ℕ
+bodyPlace names j = placeIn names j
 
--- the body of node j: the L bytes at its place among the named nodes; empty where it is refused
+-- where the body of node j begins: after the node numbers, at its place among the bodies
+abbrev pub bodyStart : List ℕ → ℕ → ℕ
+bodyStart bytes j = 8 + heldIn bytes + bodyPlace (namesIn bytes) j * lengthIn bytes
+
+-- the body of node j: the L bytes from there; empty where it is refused
 unfoldable pub bodyOf : List ℕ → ℕ → List ℕ
-bodyOf bytes j =
-    cond (eqb (firstMet (bodyChecks bytes j)) 0) (take (lengthIn bytes) (drop (placeIn (namesIn bytes) j * lengthIn bytes) (bodiesIn bytes))) []
+bodyOf bytes j = cond (eqb (firstMet (bodyChecks bytes j)) 0) (take (lengthIn bytes) (drop (bodyStart bytes j) bytes)) []

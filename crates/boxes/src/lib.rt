@@ -7,7 +7,8 @@ ghost use lib.ListN.{length, drop};
 ghost use Rattle.families.specs.Families.{KInRange, familyOf};
 ghost use Rattle.checks.specs.Checks.{firstMet};
 ghost use Rattle.checks.specs.Parameters.{parameterChecks};
-ghost use Rattle.boxes.specs.Box.{familyIn, kIn, lengthIn, heldIn, zerosIn, namesIn, bodiesIn, nodesIn, boxLength, boxChecks, bodyChecks, bodyStart, bodyOf};
+ghost use Rattle.lists.specs.Lists.{placeIn};
+ghost use Rattle.boxes.specs.Box.{familyIn, kIn, lengthIn, heldIn, zerosIn, namesIn, bodiesIn, nodesIn, boxLength, boxChecks, bodyChecks, bodyPlace, bodyStart, bodyOf};
 ghost use Rattle.boxes.specs.Bodies.{headerOf, bodiesOf, boxOf, withBodies};
 ghost use Rattle.boxes.specs.Places.{ListIn, Run};
 ghost use Rattle.boxes.specs.Names.{nameChecks};
@@ -148,13 +149,21 @@ pub fn body_refusal(bytes: &[u8], j: usize) -> u8
     0
 }
 
+// The place of node j's body among the bodies, from 0: that of its number among the node numbers, of which it is one.
+fn body_place(names: &[u8], j: usize) -> usize
+    requires { ⌜ placeIn (now names) j < length (now names) ⌝ }
+    ensures { λ r. ⌜ r ≡ bodyPlace (now (names .entry)) j ⌝ }
+{
+    lists::place_in(names, j)
+}
+
 // Where the body of node j begins in the box.
 pub fn body_start(bytes: &[u8], j: usize) -> usize
     requires { ⌜ firstMet (bodyChecks (now bytes) j) ≡ 0 ⌝ }
     ensures { λ r. ⌜ r ≡ bodyStart (now (bytes .entry)) j ⌝ }
 {
     let len = block_length(bytes);
-    8 + held(bytes) + lists::place_in(names(bytes), j) * len
+    8 + held(bytes) + body_place(names(bytes), j) * len
 }
 
 // The body of node j, as that part of the box; empty where it is refused, by the number that `body_refusal` gives.

@@ -8,9 +8,9 @@ use native.Mathlib.Omega.{arith}
 use borrow.Author.Tests.{ltb-false, lt-ltb, le-ltb}
 use lib.Dec.{ltb}
 use Rattle.base.proofs.Tests.{or-neither, and-right}
-use Rattle.families.specs.Families.{familyOf, leastK, mostK, KInRange}
+use Rattle.families.specs.Families.{familyOf, leastK, mostK}
 use Rattle.checks.specs.Checks.{Check, _gives_, firstMet}
-use Rattle.checks.specs.Claims.{NoneMet, Due, ChecksClaim}
+use Rattle.checks.specs.Claims.{NoneMet, Due, ChecksClaim, InRange, RangeClaim}
 use Rattle.checks.specs.Parameters.{mostL, outside, parameterChecks}
 
 -- where no earlier condition is met, the number of one that is met is given
@@ -45,6 +45,21 @@ accepted ((true gives suc r) ∷ checks) n e = absurd (omega arith)
 accepted ((false gives r) ∷ checks) n e = (refl, accepted checks (and-right (ltb 0 r) (numbered checks) n) e)
 
 -- two lists, one after the other
+pub none-zero : (checks : List Check) → NoneMet checks → firstMet checks ≡ 0
+unfolding firstMet
+none-zero [] n = refl
+none-zero ((true gives r) ∷ checks) n = absurd (true≢false (n .0))
+none-zero ((false gives r) ∷ checks) n = none-zero checks (n .1)
+
+-- of two lists of which none is met
+pub none-left : (checks later : List Check) → NoneMet (checks ++ later) → NoneMet checks
+none-left [] later n = tt
+none-left ((met gives r) ∷ checks) later n = (n .0, none-left checks later (n .1))
+
+pub none-right : (checks later : List Check) → NoneMet (checks ++ later) → NoneMet later
+none-right [] later n = n
+none-right ((met gives r) ∷ checks) later n = none-right checks later (n .1)
+
 pub none-append : (checks later : List Check) → NoneMet checks → firstMet (checks ++ later) ≡ firstMet later
 unfolding firstMet
 none-append [] later none = refl
@@ -77,14 +92,6 @@ inside least most number h =
     let n = or-neither (ltb number least) (ltb most number) h in
     (ltb-false number least (n .0), ltb-false most number (n .1))
 
--- the family, k and L are in range
-pub record InRange (family k L : ℕ) : Type 0 where
-  pub first : 1 ≤ family
-  pub last : family ≤ 3
-  pub blocks : KInRange (familyOf family) k
-  pub some : 1 ≤ L
-  pub most : L ≤ mostL
-
 pub parameters-none : (family k L : ℕ) → firstMet (parameterChecks family k L) ≡ 0 → NoneMet (parameterChecks family k L)
 unfolding parameterChecks
 parameters-none family k L e = accepted (parameterChecks family k L) refl e
@@ -99,3 +106,17 @@ range-of family k L n =
 
 pub in-range : (family k L : ℕ) → firstMet (parameterChecks family k L) ≡ 0 → InRange family k L
 in-range family k L e = range-of family k L (parameters-none family k L e)
+
+pub parameters-in : (family k L : ℕ) → InRange family k L → firstMet (parameterChecks family k L) ≡ 0
+unfolding parameterChecks
+parameters-in family k L r =
+    none-zero (parameterChecks family k L) (
+      outside-no 1 3 family (r .first) (r .last),
+      (
+        outside-no (leastK (familyOf family)) (mostK (familyOf family)) k (r .blocks .least) (r .blocks .most),
+        (outside-no 1 mostL L (r .some) (r .most), tt),
+      ),
+    )
+
+pub range-claim : RangeClaim
+range-claim family k L = (in-range family k L, parameters-in family k L)

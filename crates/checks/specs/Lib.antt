@@ -1,3 +1,3 @@
 pub mod Checks
-pub mod Claims
 pub mod Parameters
+pub mod Claims

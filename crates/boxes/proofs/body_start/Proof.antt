@@ -4,20 +4,22 @@ use mathlib.Core.Path.{_≡_}
 use Prim.Native.Nat.{_*_}
 use native.Mathlib.Omega.{arith}
 use borrow.Author.Needs.{needs}
-use Rattle.lists.specs.Lists.{placeIn}
-use Rattle.boxes.specs.Box.{lengthIn, namesIn}
-use Rattle.boxes.proofs.Laws.{body-within}
+use Rattle.boxes.specs.Box.{lengthIn, namesIn, bodyPlace}
+use Rattle.boxes.proofs.Laws.{body-named, body-within}
 use Rattle.boxes.proofs.body_start.Statement.{statement}
 use Rattle.boxes.proofs.body_start.Tie as tie
 
 -- the body's place and L, as the code has them
-place-is : (c : tie.After-place-in)
-    → c .place-in .result * c .before .before .before .block-length .result
-    ≡ placeIn (namesIn (c .before .before .before .before .before .args .bytes .now)) (c .before .before .before .before .before .args .j) * lengthIn (c .before .before .before .before .before .args .bytes .now)
+place-is : (c : tie.After-body-place)
+    → c .body-place .result * c .before .before .before .block-length .result
+    ≡ bodyPlace (namesIn (c .before .before .before .before .before .args .bytes .now)) (c .before .before .before .before .before .args .j) * lengthIn (c .before .before .before .before .before .args .bytes .now)
 place-is c = cc
 
 names-requires : tie.Need-names-requires
 names-requires c κs = let s = body-within _ _ (c .before .before .before .pre) in (omega arith, omega arith)
+
+body-place-requires : tie.Need-body-place-requires
+body-place-requires c κs = rw (c .names .ensures) (body-named _ _ (c .before .before .before .before .pre))
 
 add-result-2 : tie.Need-add-result-2
 add-result-2 c = omega (arith, place-is c, c .before .before .held .ensures, body-within _ _ (c .before .before .before .before .before .pre))
@@ -33,7 +35,7 @@ body-start-spec =
     (λ c κs. omega (arith, body-within _ _ (c .before .before .pre)))
     (λ c. omega (arith, c .held .ensures, body-within _ _ (c .before .before .before .pre)))
     names-requires
-    (λ c κs. search needs)
+    body-place-requires
     (λ c. omega (arith, place-is c, body-within _ _ (c .before .before .before .before .before .pre)))
     add-result-2
     returns)

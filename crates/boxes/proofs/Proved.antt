@@ -1,0 +1,102 @@
+-- The claims of specs/Claims.antt.
+-- Assumes nothing.
+use mathlib.Core.Path.{_≡_, refl, sym, ap, ap₂, _∙_}
+use mathlib.Core.Bool.{Bool, true, cond, not}
+use mathlib.Core.List.{List, [], _∷_}
+use Prim.Native.Nat.{ℕ, zero, suc, _+_, _*_, _≤_, _<_}
+use native.Mathlib.Omega.{arith}
+use borrow.Author.Tests.{eq-eqb, ne-eqb, le-ltb}
+use lib.Dec.{eqb}
+use lib.ListN.{length, getD, take, drop}
+use lib.Seq.{length-take-le, drop-drop}
+use borrow.Rule.Slice.PartMut.{midOf}
+use Rattle.families.specs.Families.{familyOf, nodeCount}
+use Rattle.blocks.specs.Blocks.{blockOf}
+use Rattle.blocks.proofs.PartLaws.{length-mid}
+use Rattle.checks.specs.Checks.{firstMet}
+use Rattle.checks.proofs.Laws.{none-zero, parameters-in}
+use Rattle.lists.specs.Lists.{rises, placeIn}
+use Rattle.boxes.specs.Box.{lengthIn, heldIn, namesIn, bodiesIn, nodesIn, boxChecks, bodyChecks, bodyPlace, bodyOf}
+use Rattle.boxes.specs.Bodies.{bodiesOf, boxOf, withBodies}
+use Rattle.boxes.specs.Places.{ListIn}
+use Rattle.boxes.specs.Names.{nameChecks}
+use Rattle.boxes.specs.Claims.{AcceptedBox, BoxClaim, BodyClaims, BodyClaim, BoxOfBodyClaim}
+use Rattle.boxes.proofs.Answers.{by-names, by-none, body-part}
+use Rattle.boxes.proofs.Laws.{accepted-box, node-inside, list-in, in-kept, rises-rest, rises-above, body-fits, body-at, bodies-there, bodies-same, length-withBodies, fields-of}
+
+-- ---- a box
+
+pub box-claim : BoxClaim
+unfolding nameChecks
+box-claim bytes = (accepted-box bytes, back)
+  where
+    back : AcceptedBox bytes → firstMet (boxChecks bytes) ≡ 0
+    back a =
+        by-names bytes (omega (arith, a .size)) (parameters-in _ _ _ (a .range)) (a .zeros) (a .size)
+        ∙ none-zero (nameChecks (nodesIn bytes) (namesIn bytes))
+        (le-ltb (nodesIn bytes) (length (namesIn bytes)) (omega (arith, a .few-held, a .names-size)), (a .nodes, (ap not (a .rising), tt)))
+
+-- ---- the body of a node
+
+-- the place of a number in a rising list
+place-of : (list : List ℕ) (i : ℕ) → rises list ≡ true → i < length list → placeIn list (getD list i 0) ≡ i
+unfolding placeIn
+place-of [] i r l = absurd (omega arith)
+place-of (x ∷ list) zero r l = rw (eq-eqb x x refl)
+place-of (x ∷ list) (suc i) r l =
+    rw (ne-eqb x (getD list i 0) (λ e. omega (arith, rises-above x list i r (omega arith)))) (ap suc (place-of list i (rises-rest x list r) (omega arith)))
+
+module _ (bytes : List ℕ) (e : firstMet (boxChecks bytes) ≡ 0) (i : ℕ) (l : i < heldIn bytes) where
+  box : AcceptedBox bytes
+  box = accepted-box bytes e
+
+  named : i < length (namesIn bytes)
+  named = omega (arith, box .names-size)
+
+  abbrev node : ℕ
+  node = getD (namesIn bytes) i 0
+
+  held : placeIn (namesIn bytes) node ≡ i
+  held = place-of (namesIn bytes) i (box .rising) named
+
+  -- its body has the same place among the bodies
+  place : bodyPlace (namesIn bytes) node ≡ i
+  place = held
+
+  given : firstMet (bodyChecks bytes node) ≡ 0
+  given =
+      let n = node-inside (nodesIn bytes) (namesIn bytes) i (box .nodes) named in
+      by-none bytes node e (n .0) (n .1) (omega (arith, held))
+
+  part : bodyOf bytes node ≡ midOf (i * lengthIn bytes) (lengthIn bytes) (bodiesIn bytes)
+  part = sym (body-part bytes node given) ∙ rw (place, drop-drop (i * lengthIn bytes) (8 + heldIn bytes) bytes)
+
+  fits : i * lengthIn bytes + lengthIn bytes ≤ length (bodiesIn bytes)
+  fits = omega (arith, body-fits (lengthIn bytes) i (heldIn bytes) l, box .bodies-size)
+
+  read : (nodes : List ℕ) → length nodes ≡ nodesIn bytes * lengthIn bytes
+      → blockOf (lengthIn bytes) (withBodies (lengthIn bytes) nodes (namesIn bytes) (bodiesIn bytes)) node ≡ bodyOf bytes node
+  read nodes size =
+      let L = lengthIn bytes in
+      let after = withBodies L nodes (namesIn bytes) (bodiesIn bytes) in
+      let places = list-in L (nodesIn bytes) nodes (namesIn bytes) size (box .nodes) in
+      let all : length (bodiesIn bytes) ≡ length (namesIn bytes) * L = rw (box .names-size) (box .bodies-size) in
+      sym (body-at L after (namesIn bytes) i (in-kept after (length-withBodies L nodes (namesIn bytes) (bodiesIn bytes) places all) places) named)
+      ∙ ap (midOf (i * L) L) (bodies-there L nodes (namesIn bytes) (bodiesIn bytes) (box .rising) places all)
+      ∙ sym part
+
+  pub body-claims : BodyClaims bytes i
+  body-claims = record { given = given; size = ap length part ∙ length-mid (bodiesIn bytes) (i * lengthIn bytes) (lengthIn bytes) fits; read = read }
+
+pub body-claim : BodyClaim
+body-claim bytes e i l = body-claims bytes e i l
+
+-- the box is read into the buffer that it was written from
+pub box-of-body-claim : BoxOfBodyClaim
+box-of-body-claim family k L list nodes e size i l =
+    let d = fields-of family k L list nodes in
+    let b = boxOf family k L list nodes in
+    let a = accepted-box b e in
+    let places = list-in L (nodeCount (familyOf family) k) nodes list size (rw (d .names-is, d .k-is, d .family-is) at (a .nodes)) in
+    let r = body-claims b e i (omega (arith, d .held-is)) .read nodes (rw (d .length-is, d .k-is, d .family-is) size) in
+    sym (rw (d .bodies-is, d .names-is, d .length-is) at r) ∙ bodies-same L nodes nodes list i (rw (d .names-is) at (a .rising)) places places l

@@ -1,0 +1,57 @@
+-- What is proved of boxes besides the contracts; proofs/Proved.antt has the proofs.
+use mathlib.Core.Path.{_≡_}
+use mathlib.Core.Bool.{true, false}
+use mathlib.Core.List.{List}
+use mathlib.Core.Logic.{_↔_}
+use Prim.Native.Nat.{ℕ, _*_, _≤_, _<_}
+use lib.ListN.{length, getD}
+use Rattle.families.specs.Families.{familyOf, nodeCount}
+use Rattle.checks.specs.Checks.{firstMet}
+use Rattle.checks.specs.Claims.{InRange}
+use Rattle.blocks.specs.Blocks.{blockOf}
+use Rattle.lists.specs.Lists.{someOutside, rises}
+use Rattle.boxes.specs.Box.{familyIn, kIn, lengthIn, heldIn, zerosIn, namesIn, bodiesIn, nodesIn, boxLength, boxChecks, bodyChecks, bodyOf}
+use Rattle.boxes.specs.Bodies.{boxOf, withBodies}
+
+-- ---- a box
+
+-- a box that is as document 01 says
+pub record AcceptedBox (bytes : List ℕ) : Type 0 where
+  -- family, k and L are in range, and bytes 5 to 7 are zero
+  pub range : InRange (familyIn bytes) (kIn bytes) (lengthIn bytes)
+  pub zeros : zerosIn bytes ≡ true
+  -- the length is 8 + E + E × L, and E is at most n
+  pub size : length bytes ≡ boxLength (heldIn bytes) (lengthIn bytes)
+  pub few-held : heldIn bytes ≤ nodesIn bytes
+  -- the node numbers are 1 to n, and strictly rise
+  pub nodes : someOutside (nodesIn bytes) (namesIn bytes) ≡ false
+  pub rising : rises (namesIn bytes) ≡ true
+  -- the numbers of nodes and of bodies are both E
+  pub names-size : length (namesIn bytes) ≡ heldIn bytes
+  pub bodies-size : length (bodiesIn bytes) ≡ heldIn bytes * lengthIn bytes
+
+-- a box is accepted exactly where it is so
+abbrev pub BoxClaim : Type 0
+BoxClaim = (bytes : List ℕ) → (firstMet (boxChecks bytes) ≡ 0) ↔ AcceptedBox bytes
+
+-- ---- the body of a node
+
+-- of the node at place i among the node numbers
+pub record BodyClaims (bytes : List ℕ) (i : ℕ) : Type 0 where
+  -- its body is not refused, and is L bytes
+  pub given : firstMet (bodyChecks bytes (getD (namesIn bytes) i 0)) ≡ 0
+  pub size : length (bodyOf bytes (getD (namesIn bytes) i 0)) ≡ lengthIn bytes
+  -- it is what a read puts in the node's place
+  pub read : (nodes : List ℕ) → length nodes ≡ nodesIn bytes * lengthIn bytes
+      → blockOf (lengthIn bytes) (withBodies (lengthIn bytes) nodes (namesIn bytes) (bodiesIn bytes)) (getD (namesIn bytes) i 0)
+      ≡ bodyOf bytes (getD (namesIn bytes) i 0)
+
+-- for every accepted box and each of its named nodes
+abbrev pub BodyClaim : Type 0
+BodyClaim = (bytes : List ℕ) → firstMet (boxChecks bytes) ≡ 0 → (i : ℕ) → i < heldIn bytes → BodyClaims bytes i
+
+-- in the box of a list of nodes, where it is accepted, the body of each is that node's block
+abbrev pub BoxOfBodyClaim : Type 0
+BoxOfBodyClaim = (family k L : ℕ) (list nodes : List ℕ) → firstMet (boxChecks (boxOf family k L list nodes)) ≡ 0
+    → length nodes ≡ nodeCount (familyOf family) k * L → (i : ℕ) → i < length list
+    → bodyOf (boxOf family k L list nodes) (getD list i 0) ≡ blockOf L nodes (getD list i 0)
