@@ -242,7 +242,7 @@ three-zeros x y z h =
     let t = and-right (eqb x 0) (eqb y 0 && eqb z 0) h in
     (eqb-true x 0 (and-left (eqb x 0) (eqb y 0 && eqb z 0) h), eqb-true y 0 (and-left (eqb y 0) (eqb z 0) t), eqb-true z 0 (and-right (eqb y 0) (eqb z 0) t))
 
-pub box-of-fields : (bytes nodes : List ℕ) → ((i : ℕ) → getD bytes i 0 < 256) → firstMet (boxChecks bytes) ≡ 0
+pub box-of-fields : (bytes nodes : List ℕ) → getD bytes 2 0 < 256 → firstMet (boxChecks bytes) ≡ 0
     → bodiesOf (lengthIn bytes) nodes (namesIn bytes) ≡ bodiesIn bytes
     → boxOf (familyIn bytes) (kIn bytes) (lengthIn bytes) (namesIn bytes) nodes ≡ bytes
 unfolding boxOf
@@ -250,8 +250,8 @@ box-of-fields bytes nodes byte e h =
     let a = accepted-box bytes e in
     let x = getD bytes 2 0 in
     let y = getD bytes 3 0 in
-    let low : (x + y * 256) % 256 ≡ x = omega (arith, byte 2) in
-    let high : (x + y * 256) / 256 ≡ y = omega (arith, byte 2) in
+    let low : (x + y * 256) % 256 ≡ x = omega arith in
+    let high : (x + y * 256) / 256 ≡ y = omega arith in
     let z = three-zeros (getD bytes 5 0) (getD bytes 6 0) (getD bytes 7 0) (a .zeros) in
     let rest : namesIn bytes ++ bodiesIn bytes ≡ drop 8 bytes = rw (← drop-drop (heldIn bytes) 8 bytes) (take-append-drop (heldIn bytes) (drop 8 bytes)) in
     rw (h, a .names-size, rest, low, high) (front bytes 0 0 0 (omega (arith, a .size)) (z .0) (z .1) (z .2))

@@ -11,7 +11,8 @@ use Rattle.families.specs.Families.{familyOf, nodeCount}
 use Rattle.families.proofs.Laws.{few, short}
 use Rattle.checks.specs.Checks.{firstMet}
 use Rattle.checks.specs.Parameters.{parameterChecks}
-use Rattle.checks.proofs.Laws.{InRange, in-range, range-of, accepted, parameters-none, none-append, some-append}
+use Rattle.checks.specs.Claims.{InRange}
+use Rattle.checks.proofs.Laws.{in-range, range-of, accepted, parameters-none, none-append, some-append}
 use Rattle.encoding.specs.Matrix.{nodesBuffer}
 use Rattle.encoding.specs.Encode.{encodeChecks, encodeAnswer, encoded}
 

@@ -6,29 +6,25 @@ use mathlib.Core.List.{List}
 use Prim.Native.Nat.{ℕ, _≤_}
 use native.Mathlib.Nat.{mul-le-mul-right}
 use native.Mathlib.Omega.{arith}
-use borrow.Author.Tests.{eqb-true, not-false, ltb-true, ltb-false}
+use borrow.Author.Tests.{ltb-true, ltb-false}
 use lib.Dec.{ltb}
 use Rattle.families.specs.Families.{familyOf, nodeCount}
 use Rattle.families.proofs.Laws.{few}
 use Rattle.checks.specs.Checks.{firstMet}
-use Rattle.checks.specs.Parameters.{parameterChecks}
-use Rattle.checks.proofs.Laws.{InRange, accepted, range-of}
-use Rattle.encoding.specs.Matrix.{nodesBuffer}
+use Rattle.checks.proofs.Laws.{parameters-in}
 use Rattle.lists.specs.Lists.{someOutside, liveNodes, liveOutside}
 use Rattle.lists.proofs.Laws.{live-of-list, marks-of-live-nodes, list-outside-none, outside-more}
-use Rattle.boxes.specs.Box.{familyIn, kIn, lengthIn, namesIn, heldIn, boxLength}
-use Rattle.boxes.proofs.Answers.{by-length}
-use Rattle.boxes.proofs.Laws.{accepted-box, parameters-in}
-use Rattle.readout.proofs.Laws.{blocks-of-encoded}
+use Rattle.boxes.specs.Box.{familyIn, kIn, lengthIn, namesIn, heldIn, boxLength, boxChecks}
+use Rattle.boxes.proofs.Answers.{by-length, by-box, body-empty}
+use Rattle.boxes.proofs.Laws.{accepted-box}
+use Rattle.boxes.proofs.Proved.{body-claim, box-of-body-claim}
 use Rattle.repair.specs.declared.Session.{Session}
-use Rattle.repair.specs.Session.{sessionOf, startChecks, started, nodesOf, noStart, nodesChecks}
-use Rattle.repair.specs.Boxed.{checkedBox, nodesRead, listed}
-use Rattle.repair.specs.ReadOut.{missingIn, readOutChecks}
-use Rattle.repair.specs.Claims.{FromStart, NoStartClaim, StartMarksClaim, boxWritten, WriteReadClaim, ReadKeepsClaim, ReadWriteClaim, RoundTripClaim, BoxStartClaim, BoxClaim, WrongCountClaim}
+use Rattle.repair.specs.Session.{started, nodesOf, noStart}
+use Rattle.repair.specs.Boxed.{checkedBox, listed}
+use Rattle.repair.specs.Claims.{FromStart, NoStartClaim, StartMarksClaim, WriteReadClaim, ReadKeepsClaim, ReadWriteClaim, ReadBodyClaim, WrittenBodyClaim, BoxStartClaim, WrongCountClaim}
 use Rattle.repair.proofs.StartLaws.{known, start-0, no-start-marks, accepted-start}
-use Rattle.repair.proofs.ReadOutLaws.{read}
-use Rattle.repair.proofs.RoundTripLaws.{live-good, accepted-write, box-checked, box-reads, bodies-read, read-keeps, again-all, again-named}
-use Rattle.repair.proofs.ListedLaws.{listed-blocks}
+use Rattle.repair.proofs.BoxedLaws.{read-by-box}
+use Rattle.repair.proofs.RoundTripLaws.{live-good, accepted-write, box-written, write-answer, write-room, write-rest, box-passes, box-checked, box-reads, bodies-read, accepted-read, read-is, read-keeps, again-all, again-named}
 
 -- ---- start
 
@@ -69,7 +65,15 @@ start-marks-claim family k L list e j h =
 
 pub write-read-claim : WriteReadClaim
 write-read-claim s nodes list out e =
-    record { checks = box-checked s nodes list out e; reads = box-reads s nodes list out e; bodies = bodies-read s nodes list out e }
+    record {
+      box = box-written s nodes list out e;
+      answer = write-answer s nodes list out e;
+      room = write-room s nodes list out e;
+      rest = write-rest s nodes list out e;
+      checks = box-checked s nodes list out e;
+      reads = box-reads s nodes list out e;
+      bodies = bodies-read s nodes list out e;
+    }
 
 pub read-keeps-claim : ReadKeepsClaim
 read-keeps-claim bytes nodes e j p n = read-keeps bytes nodes e j p n
@@ -77,24 +81,19 @@ read-keeps-claim bytes nodes e j p n = read-keeps bytes nodes e j p n
 pub read-write-claim : ReadWriteClaim
 read-write-claim bytes nodes out byte e room = (again-all bytes nodes e byte out room, again-named bytes nodes e byte out room)
 
--- the buffer that was read agrees with the encoded one at the listed nodes, and no data block's node is missing from them
-pub round-trip-claim : RoundTripClaim
-unfolding readOutChecks nodesChecks
-round-trip-claim s object list out other result size e h o =
-    let f = familyOf (s .family) in
-    let buffer = nodesBuffer f (s .k) (s .len) object in
-    let back = nodesRead (boxWritten s buffer list out) other in
-    let t = sessionOf (s .family) (s .k) (s .len) (listed s list) in
-    let a = accepted-write s buffer list out e in
-    let n = accepted (readOutChecks t back result) refl o in
-    sym (read t back result o .written)
-    ∙ listed-blocks f (s .k) (s .len) back buffer (listed s list) (a .range .blocks) (a .good .outside) (eqb-true (missingIn t) 0 (not-false _ (n .1 .1 .1 .0))) (bodies-read s buffer list out e other h)
-    ∙ blocks-of-encoded f (s .k) (s .len) object (a .range .blocks) size
-
 -- ---- the body of a node
 
-pub box-claim : BoxClaim
-box-claim bytes e = let a = accepted-box bytes e in record { names = a .names-size; bodies = a .bodies-size }
+pub read-body-claim : ReadBodyClaim
+read-body-claim bytes nodes e i l =
+    let a = accepted-read bytes nodes e in
+    rw (read-is bytes nodes e) (body-claim bytes (a .passes) i l .read nodes (a .size))
+
+pub written-body-claim : WrittenBodyClaim
+written-body-claim s nodes list out e i l =
+    rw (box-written s nodes list out e)
+    (box-of-body-claim (s .family) (s .k) (s .len) (listed s list) nodes (box-passes s nodes list out e) (accepted-write s nodes list out e .size) i l)
+
+-- ---- a page that counts another number
 
 -- two numbers of nodes have two lengths
 one-count : (L m E : ℕ) → boxLength m L ≡ boxLength E L → m ≡ E
@@ -105,4 +104,12 @@ one-count L m E e = either (ltb m E) refl
     either false h = let l = ltb-false m E h in omega (arith, l, mul-le-mul-right L l)
 
 pub wrong-count-claim : WrongCountClaim
-wrong-count-claim bytes m long e z size other = by-length bytes long e z (λ s. other (one-count (lengthIn bytes) m (heldIn bytes) (sym size ∙ s)))
+unfolding checkedBox
+wrong-count-claim bytes m long e z size other =
+    let b = by-length bytes long e z (λ s. other (one-count (lengthIn bytes) m (heldIn bytes) (sym size ∙ s))) in
+    let some : firstMet (boxChecks bytes) ≡ 0 → ⊥ = λ none. omega (arith, b) in
+    record {
+      check = rw b;
+      read = λ nodes. let r = read-by-box bytes nodes 7 (sym b) (λ z. omega arith) in (sym (r .answer), sym (r .kept));
+      body = λ j. let y = by-box bytes j some ∙ b in (y, body-empty bytes j (λ none. omega (arith, y)));
+    }

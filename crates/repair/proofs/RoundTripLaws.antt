@@ -5,22 +5,24 @@ use mathlib.Core.Bool.{true, false, not}
 use mathlib.Core.List.{List, [], _∷_, _++_}
 use Prim.Native.Nat.{ℕ, _*_, _≤_, _<_}
 use native.Mathlib.Omega.{arith}
-use borrow.Author.Tests.{eqb-true, eq-eqb, le-ltb, not-false}
+use borrow.Author.Tests.{eqb-true, eq-eqb, ltb-false, le-ltb, not-false}
 use lib.Dec.{eqb}
 use lib.ListN.{length, getD, drop}
 use lib.Seq.{take-at}
 use Rattle.families.specs.Families.{familyOf}
 use Rattle.families.proofs.Laws.{few}
 use Rattle.checks.specs.Checks.{Check, _gives_, firstMet}
-use Rattle.checks.proofs.Laws.{InRange, accepted, none-append}
+use Rattle.checks.specs.Claims.{InRange}
+use Rattle.checks.proofs.Laws.{accepted, none-zero, none-append, parameters-in}
 use Rattle.blocks.specs.Blocks.{blockOf}
 use Rattle.lists.specs.Lists.{someOutside, rises, someMissing, liveNodes}
 use Rattle.lists.proofs.Laws.{live-nodes-of-list, live-nodes-inside, live-nodes-rise, live-nodes-live, list-outside-none, rising-few}
 use Rattle.boxes.specs.Box.{familyIn, kIn, lengthIn, namesIn, bodiesIn, nodesIn, boxChecks}
 use Rattle.boxes.specs.Bodies.{bodiesOf, boxOf, withBodies}
 use Rattle.boxes.specs.Places.{ListIn}
-use Rattle.boxes.proofs.Answers.{none-zero, box-none}
-use Rattle.boxes.proofs.Laws.{AcceptedBox, accepted-box, box-accepted, FieldsOf, fields-of, box-of-fields, length-boxOf, length-withBodies, bodies-there, bodies-same, bodies-other, list-in, parameters-in}
+use Rattle.boxes.specs.Claims.{AcceptedBox}
+use Rattle.boxes.proofs.Answers.{box-none}
+use Rattle.boxes.proofs.Laws.{accepted-box, box-accepted, FieldsOf, fields-of, box-of-fields, length-boxOf, length-withBodies, bodies-there, bodies-same, bodies-other, list-in}
 use Rattle.repair.specs.declared.Session.{Session}
 use Rattle.repair.specs.Session.{sessionOf, nodesOf, noStart, nodesChecks}
 use Rattle.repair.specs.Boxed.{sessionIn, checkedBox, readChecks, nodesRead, listed, writtenLength, writeChecks, written, outWritten}
@@ -42,26 +44,36 @@ listed-good : (s : Session) (list : List ℕ) → Good (nodesOf s) list → Good
 listed-good s [] g = live-good s
 listed-good s (j ∷ list) g = g
 
+listed-live : (s : Session) (list : List ℕ) → someMissing (s .live) list ≡ false → someMissing (s .live) (listed s list) ≡ false
+listed-live s [] m = live-nodes-live (s .live) (nodesOf s)
+listed-live s (j ∷ list) m = m
+
 -- what an accepted write says
-pub record AcceptedWrite (s : Session) (nodes list : List ℕ) : Type 0 where
+pub record AcceptedWrite (s : Session) (nodes list out : List ℕ) : Type 0 where
   pub range : InRange (s .family) (s .k) (s .len)
+  pub starts : noStart s ≡ false
   pub size : length nodes ≡ nodesOf s * s .len
   pub good : Good (nodesOf s) (listed s list)
+  pub live : someMissing (s .live) (listed s list) ≡ false
+  pub room : writtenLength s list ≤ length out
 
-pub accepted-write : (s : Session) (nodes list out : List ℕ) → firstMet (writeChecks s nodes list out) ≡ 0 → AcceptedWrite s nodes list
+pub accepted-write : (s : Session) (nodes list out : List ℕ) → firstMet (writeChecks s nodes list out) ≡ 0 → AcceptedWrite s nodes list out
 unfolding writeChecks nodesChecks
 accepted-write s nodes list out e =
     let n = accepted (writeChecks s nodes list out) refl e in
     record {
       range = known s (n .0) .range;
+      starts = n .0;
       size = eqb-true (length nodes) (nodesOf s * s .len) (not-false _ (n .1 .0));
       good = listed-good s list (record { outside = n .1 .1 .0; rising = not-false (rises list) (n .1 .1 .1 .0) });
+      live = listed-live s list (n .1 .1 .1 .1 .0);
+      room = ltb-false (length out) (writtenLength s list) (n .1 .1 .1 .1 .1 .0);
     }
 
 -- ---- the box that a write leaves, checked and read
 
 module _ (s : Session) (nodes list out : List ℕ) (e : firstMet (writeChecks s nodes list out) ≡ 0) where
-  says : AcceptedWrite s nodes list
+  says : AcceptedWrite s nodes list out
   says = accepted-write s nodes list out e
 
   -- a buffer of n × L bytes has the listed nodes
@@ -69,15 +81,33 @@ module _ (s : Session) (nodes list out : List ℕ) (e : firstMet (writeChecks s 
   listed-in buffer h = list-in (s .len) (nodesOf s) buffer (listed s list) h (says .good .outside)
 
   -- what is left is the box of the listed nodes
-  box-written : boxWritten s nodes list out ≡ boxOf (s .family) (s .k) (s .len) (listed s list) nodes
+  pub box-written : boxWritten s nodes list out ≡ boxOf (s .family) (s .k) (s .len) (listed s list) nodes
   unfolding outWritten
   box-written =
       rw e
       (take-at (boxOf (s .family) (s .k) (s .len) (listed s list) nodes) (drop (writtenLength s list) out) (writtenLength s list)
       (length-boxOf (s .family) (s .k) (s .len) (listed s list) nodes (listed-in nodes (says .size))))
 
+  box-size : length (boxWritten s nodes list out) ≡ writtenLength s list
+  box-size = ap length box-written ∙ length-boxOf (s .family) (s .k) (s .len) (listed s list) nodes (listed-in nodes (says .size))
+
+  -- its length is returned, there is room for it, and beyond it nothing is written
+  pub write-answer : written s nodes list out ≡ record { refusal = 0; length = length (boxWritten s nodes list out); session = s }
+  unfolding written
+  write-answer = rw (box-size, e)
+
+  pub write-room : length (boxWritten s nodes list out) ≤ length out
+  write-room = omega (arith, box-size, says .room)
+
+  done : outWritten s nodes list out ≡ boxOf (s .family) (s .k) (s .len) (listed s list) nodes ++ drop (writtenLength s list) out
+  unfolding outWritten
+  done = rw e
+
+  pub write-rest : outWritten s nodes list out ≡ boxWritten s nodes list out ++ drop (length (boxWritten s nodes list out)) out
+  write-rest = rw (box-size, box-written) done
+
   -- and it is accepted
-  box-passes : firstMet (boxChecks (boxOf (s .family) (s .k) (s .len) (listed s list) nodes)) ≡ 0
+  pub box-passes : firstMet (boxChecks (boxOf (s .family) (s .k) (s .len) (listed s list) nodes)) ≡ 0
   box-passes =
       let g = says .good in
       box-accepted (s .family) (s .k) (s .len) (listed s list) nodes (says .range) (g .outside) (g .rising)
@@ -122,11 +152,11 @@ front-none ((true gives n) ∷ checks) later e = e
 front-none ((false gives n) ∷ checks) later e = front-none checks later e
 
 -- what an accepted read says
-record AcceptedRead (bytes nodes : List ℕ) : Type 0 where
-  passes : firstMet (boxChecks bytes) ≡ 0
-  size : length nodes ≡ nodesIn bytes * lengthIn bytes
+pub record AcceptedRead (bytes nodes : List ℕ) : Type 0 where
+  pub passes : firstMet (boxChecks bytes) ≡ 0
+  pub size : length nodes ≡ nodesIn bytes * lengthIn bytes
 
-accepted-read : (bytes nodes : List ℕ) → firstMet (readChecks bytes nodes) ≡ 0 → AcceptedRead bytes nodes
+pub accepted-read : (bytes nodes : List ℕ) → firstMet (readChecks bytes nodes) ≡ 0 → AcceptedRead bytes nodes
 unfolding readChecks
 accepted-read bytes nodes e =
     let sizes = (not (eqb (length nodes) (nodesIn bytes * lengthIn bytes)) gives 6) ∷ [] in
@@ -173,7 +203,7 @@ module _ (bytes nodes : List ℕ) (e : firstMet (readChecks bytes nodes) ≡ 0) 
   bodies-held = rw (passed .names-size) (passed .bodies-size)
 
   -- what was read
-  read-is : nodesRead bytes nodes ≡ withBodies (lengthIn bytes) nodes (namesIn bytes) (bodiesIn bytes)
+  pub read-is : nodesRead bytes nodes ≡ withBodies (lengthIn bytes) nodes (namesIn bytes) (bodiesIn bytes)
   unfolding nodesRead
   read-is = rw e
 
@@ -184,7 +214,7 @@ module _ (bytes nodes : List ℕ) (e : firstMet (readChecks bytes nodes) ≡ 0) 
       → blockOf (lengthIn bytes) (nodesRead bytes nodes) j ≡ blockOf (lengthIn bytes) nodes j
   read-keeps j p n = rw read-is (bodies-other (lengthIn bytes) nodes (namesIn bytes) (bodiesIn bytes) j names-in bodies-held p n)
 
-  module _ (byte : (i : ℕ) → getD bytes i 0 < 256) (out : List ℕ) (room : length bytes ≤ length out) where
+  module _ (byte : getD bytes 2 0 < 256) (out : List ℕ) (room : length bytes ≤ length out) where
     -- the box of what was read is the box
     box-again : boxOf (familyIn bytes) (kIn bytes) (lengthIn bytes) (namesIn bytes) (nodesRead bytes nodes) ≡ bytes
     box-again =

@@ -11,9 +11,9 @@ use Rattle.base.proofs.Tests.{or-neither}
 use Rattle.families.specs.Families.{familyOf, nodeCount}
 use Rattle.families.proofs.Laws.{few, short}
 use Rattle.checks.specs.Checks.{Check, _gives_, firstMet}
-use Rattle.checks.specs.Claims.{NoneMet}
+use Rattle.checks.specs.Claims.{NoneMet, InRange}
 use Rattle.checks.specs.Parameters.{parameterChecks}
-use Rattle.checks.proofs.Laws.{InRange, in-range, range-of, accepted, parameters-none, none-append, some-append}
+use Rattle.checks.proofs.Laws.{in-range, range-of, accepted, parameters-none, none-append, some-append}
 use Rattle.lists.specs.Lists.{someOutside, rises, listChecks, liveOutside}
 use Rattle.repair.specs.declared.Session.{Session}
 use Rattle.repair.specs.Session.{startChecks, nodesOf, noStart, nodesChecks}

@@ -11,10 +11,9 @@ use Rattle.base.proofs.Tests.{or-neither}
 use Rattle.families.specs.Families.{familyOf, KInRange, IsNode, areRelated}
 use Rattle.checks.specs.Checks.{Check, _gives_, firstMet}
 use Rattle.checks.specs.Parameters.{outside}
-use Rattle.checks.proofs.Laws.{inside, outside-no, accepted, none-append, some-append}
+use Rattle.checks.proofs.Laws.{inside, outside-no, accepted, none-append, some-append, none-zero}
 use Rattle.lists.specs.Lists.{someOutside, isLive, someMissing}
 use Rattle.lists.proofs.Laws.{outside-none}
-use Rattle.boxes.proofs.Answers.{none-zero}
 use Rattle.planning.specs.Plan.{Step}
 use Rattle.planning.specs.Made.{mended, StepIn}
 use Rattle.planning.specs.Claims.{CanMake}

@@ -6,17 +6,15 @@ use mathlib.Core.Logic.{_↔_}
 use Prim.Native.Nat.{ℕ, _*_, _≤_, _<_}
 use lib.Dec.{ltb}
 use lib.ListN.{length, getD, take, drop}
-use Rattle.families.specs.Families.{familyOf}
 use Rattle.blocks.specs.Blocks.{blockOf}
 use Rattle.checks.specs.Checks.{firstMet}
 use Rattle.checks.specs.Parameters.{parameterChecks}
-use Rattle.encoding.specs.Matrix.{nodesBuffer}
 use Rattle.lists.specs.Lists.{isLive, placeIn}
-use Rattle.boxes.specs.Box.{familyIn, kIn, lengthIn, heldIn, zerosIn, namesIn, bodiesIn, boxLength, boxChecks}
+use Rattle.boxes.specs.Box.{familyIn, kIn, lengthIn, heldIn, zerosIn, namesIn, boxLength, boxChecks, bodyChecks, bodyOf}
+use Rattle.boxes.specs.Bodies.{boxOf}
 use Rattle.repair.specs.declared.Session.{Session}
-use Rattle.repair.specs.Session.{sessionOf, startChecks, started, nodesOf, noStart}
-use Rattle.repair.specs.Boxed.{sessionIn, checkedBox, readChecks, nodesRead, listed, writtenLength, writeChecks, written, outWritten}
-use Rattle.repair.specs.ReadOut.{readOutChecks, objectOut}
+use Rattle.repair.specs.Session.{sessionOf, refusedStart, startChecks, started, nodesOf, noStart}
+use Rattle.repair.specs.Boxed.{sessionIn, checkedBox, readChecks, readBox, nodesRead, listed, writtenLength, writeChecks, written, outWritten}
 
 -- ---- start
 
@@ -41,8 +39,14 @@ StartMarksClaim = (family k L : ℕ) (list : List ℕ) → firstMet (startChecks
 abbrev pub boxWritten : Session → List ℕ → List ℕ → List ℕ → List ℕ
 boxWritten s nodes list out = take (writtenLength s list) (outWritten s nodes list out)
 
--- the box that is written checks to the session of the listed nodes, and reads, into whatever buffer, to the same bodies
+-- of an accepted write
 pub record WriteReadClaims (s : Session) (nodes list out : List ℕ) : Type 0 where
+  -- these bytes are the box of the listed nodes; their number is returned, there is room for them, and beyond them nothing is written
+  pub box : boxWritten s nodes list out ≡ boxOf (s .family) (s .k) (s .len) (listed s list) nodes
+  pub answer : written s nodes list out ≡ record { refusal = 0; length = length (boxWritten s nodes list out); session = s }
+  pub room : length (boxWritten s nodes list out) ≤ length out
+  pub rest : outWritten s nodes list out ≡ boxWritten s nodes list out ++ drop (length (boxWritten s nodes list out)) out
+  -- the box checks to the session of the listed nodes, and reads, into whatever buffer, to the same bodies
   pub checks : checkedBox (boxWritten s nodes list out) ≡ record { refusal = 0; session = sessionOf (s .family) (s .k) (s .len) (listed s list) }
   pub reads : (other : List ℕ) → length other ≡ nodesOf s * s .len → firstMet (readChecks (boxWritten s nodes list out) other) ≡ 0
   pub bodies : (other : List ℕ) → length other ≡ nodesOf s * s .len → (i : ℕ) → i < length (listed s list)
@@ -64,23 +68,23 @@ pub record WrittenAgain (bytes nodes list out : List ℕ) : Type 0 where
   pub answer : written (sessionIn bytes) (nodesRead bytes nodes) list out ≡ record { refusal = 0; length = length bytes; session = sessionIn bytes }
   pub box : outWritten (sessionIn bytes) (nodesRead bytes nodes) list out ≡ bytes ++ drop (length bytes) out
 
--- an accepted box, read and written again before any repair, has the same bytes, by an empty list and by its own
+-- an accepted box, read and written again before any repair, has the same bytes, by an empty list and by its own. That byte 2, the
+-- low one of L, is a byte is all that is asked of the list of numbers
 abbrev pub ReadWriteClaim : Type 0
-ReadWriteClaim = (bytes nodes out : List ℕ) → ((i : ℕ) → getD bytes i 0 < 256) → firstMet (readChecks bytes nodes) ≡ 0 → length bytes ≤ length out
+ReadWriteClaim = (bytes nodes out : List ℕ) → getD bytes 2 0 < 256 → firstMet (readChecks bytes nodes) ≡ 0 → length bytes ≤ length out
     → WrittenAgain bytes nodes [] out × WrittenAgain bytes nodes (namesIn bytes) out
 
--- ---- encode, write, read, read out
+-- ---- the body of a node
 
--- an object that is encoded, written to a box from a session, read into whatever buffer and read out, where that is accepted,
--- is the object put in
-abbrev pub RoundTripClaim : Type 0
-RoundTripClaim = (s : Session) (object list out other result : List ℕ) → length object ≡ s .k * s .len
-    → firstMet (writeChecks s (nodesBuffer (familyOf (s .family)) (s .k) (s .len) object) list out) ≡ 0
-    → length other ≡ nodesOf s * s .len
-    → firstMet (readOutChecks (sessionOf (s .family) (s .k) (s .len) (listed s list))
-    (nodesRead (boxWritten s (nodesBuffer (familyOf (s .family)) (s .k) (s .len) object) list out) other) result) ≡ 0
-    → objectOut (sessionOf (s .family) (s .k) (s .len) (listed s list))
-    (nodesRead (boxWritten s (nodesBuffer (familyOf (s .family)) (s .k) (s .len) object) list out) other) result ≡ object
+-- the body of a named node is what a read puts in its place
+abbrev pub ReadBodyClaim : Type 0
+ReadBodyClaim = (bytes nodes : List ℕ) → firstMet (readChecks bytes nodes) ≡ 0 → (i : ℕ) → i < heldIn bytes
+    → blockOf (lengthIn bytes) (nodesRead bytes nodes) (getD (namesIn bytes) i 0) ≡ bodyOf bytes (getD (namesIn bytes) i 0)
+
+-- in a written box it is that node's block
+abbrev pub WrittenBodyClaim : Type 0
+WrittenBodyClaim = (s : Session) (nodes list out : List ℕ) → firstMet (writeChecks s nodes list out) ≡ 0 → (i : ℕ) → i < length (listed s list)
+    → bodyOf (boxWritten s nodes list out) (getD (listed s list) i 0) ≡ blockOf (s .len) nodes (getD (listed s list) i 0)
 
 -- ---- a box and its session
 
@@ -88,15 +92,13 @@ RoundTripClaim = (s : Session) (object list out other result : List ℕ) → len
 abbrev pub BoxStartClaim : Type 0
 BoxStartClaim = (bytes : List ℕ) → firstMet (boxChecks bytes) ≡ 0 → checkedBox bytes ≡ started (familyIn bytes) (kIn bytes) (lengthIn bytes) (namesIn bytes)
 
--- in an accepted box the numbers of nodes and of bodies are both E
-pub record BoxClaims (bytes : List ℕ) : Type 0 where
-  pub names : length (namesIn bytes) ≡ heldIn bytes
-  pub bodies : length (bodiesIn bytes) ≡ heldIn bytes * lengthIn bytes
-
-abbrev pub BoxClaim : Type 0
-BoxClaim = (bytes : List ℕ) → firstMet (boxChecks bytes) ≡ 0 → BoxClaims bytes
+-- 7 is what check, read and a body give
+pub record Cut (bytes : List ℕ) : Type 0 where
+  pub check : checkedBox bytes ≡ refusedStart 7
+  pub read : (nodes : List ℕ) → (readBox bytes nodes ≡ refusedStart 7) × (nodesRead bytes nodes ≡ nodes)
+  pub body : (j : ℕ) → (firstMet (bodyChecks bytes j) ≡ 7) × (bodyOf bytes j ≡ [])
 
 -- a page that counts E nodes with the length for another number of them gives 7, before any number or body is looked at
 abbrev pub WrongCountClaim : Type 0
 WrongCountClaim = (bytes : List ℕ) (m : ℕ) → 8 ≤ length bytes → firstMet (parameterChecks (familyIn bytes) (kIn bytes) (lengthIn bytes)) ≡ 0 → zerosIn bytes ≡ true
-    → length bytes ≡ boxLength m (lengthIn bytes) → (m ≡ heldIn bytes → ⊥) → firstMet (boxChecks bytes) ≡ 7
+    → length bytes ≡ boxLength m (lengthIn bytes) → (m ≡ heldIn bytes → ⊥) → Cut bytes

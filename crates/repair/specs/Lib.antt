@@ -7,3 +7,4 @@ pub mod Calls
 pub mod LeftOver
 pub mod Claims
 pub mod RepairClaims
+pub mod WholeWay

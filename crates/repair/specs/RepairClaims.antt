@@ -12,7 +12,7 @@ use Rattle.lists.specs.Lists.{isLive}
 use Rattle.planning.specs.Pairs.{NoPairLeft}
 use Rattle.planning.specs.Plan.{Step}
 use Rattle.repair.specs.declared.Session.{Session}
-use Rattle.repair.specs.Session.{noStart}
+use Rattle.repair.specs.Session.{nodesOf, noStart}
 use Rattle.repair.specs.Repairs.{planIn, runChecks, ran, nodesRan}
 use Rattle.repair.specs.ReadOut.{readOutChecks, objectOut}
 use Rattle.repair.specs.Calls.{Move, step, sessionAfter, Held, heldAfter}
@@ -45,6 +45,21 @@ abbrev pub PlacesKeptClaim : Type 0
 PlacesKeptClaim = (s : Session) → length (s .live) ≡ 256 → (nodes : List ℕ) → firstMet (runChecks s nodes) ≡ 0
     → (j : ℕ) → IsNode (familyOf (s .family)) (s .k) j → isLive (ran s nodes .session .live) j ≡ false
     → blockOf (s .len) (nodesRan s nodes) j ≡ blockOf (s .len) nodes j
+
+-- the blocks of nodes that were live before it stay as they were
+abbrev pub LiveKeptClaim : Type 0
+LiveKeptClaim = (s : Session) → length (s .live) ≡ 256 → (nodes : List ℕ) → firstMet (runChecks s nodes) ≡ 0
+    → (j : ℕ) → IsNode (familyOf (s .family)) (s .k) j → isLive (s .live) j ≡ true
+    → blockOf (s .len) (nodesRan s nodes) j ≡ blockOf (s .len) nodes j
+
+-- a run after a run repairs nothing: the same nodes left, session and buffer
+pub record RunAgain (s : Session) (nodes other : List ℕ) : Type 0 where
+  pub answer : ran (ran s nodes .session) other ≡ record { refusal = 0; steps = 0; rounds = 0; left = ran s nodes .left; session = ran s nodes .session }
+  pub nodes-are : nodesRan (ran s nodes .session) other ≡ other
+
+abbrev pub RunAgainClaim : Type 0
+RunAgainClaim = (s : Session) → length (s .live) ≡ 256 → (nodes : List ℕ) → firstMet (runChecks s nodes) ≡ 0
+    → (other : List ℕ) → length other ≡ nodesOf s * s .len → RunAgain s nodes other
 
 -- ---- the object's own blocks (demand 2)
 

@@ -7,7 +7,8 @@ use native.Mathlib.Omega.{arith}
 use Rattle.families.proofs.Laws.{few}
 use Rattle.checks.specs.Checks.{firstMet}
 use Rattle.boxes.specs.Box.{boxChecks, lengthIn, namesIn, nodesIn}
-use Rattle.boxes.proofs.Laws.{AcceptedBox, accepted-box, has-names, list-in}
+use Rattle.boxes.specs.Claims.{AcceptedBox}
+use Rattle.boxes.proofs.Laws.{accepted-box, has-names, list-in}
 use Rattle.repair.proofs.BoxedLaws.{read-by-box, read-by-nodes, read-done}
 use borrow.Author.Needs.{needs}
 use Rattle.repair.proofs.Session.read.Statement.{statement}
