@@ -1,14 +1,13 @@
 -- The claims of specs/Claims.antt.
 -- Assumes nothing.
-use mathlib.Core.Path.{_≡_, refl, sym, ap, ap₂, _∙_}
-use mathlib.Core.Bool.{Bool, true, cond, not}
+use mathlib.Core.Path.{_≡_, refl, sym, ap, _∙_}
+use mathlib.Core.Bool.{true, not}
 use mathlib.Core.List.{List, [], _∷_}
 use Prim.Native.Nat.{ℕ, zero, suc, _+_, _*_, _≤_, _<_}
 use native.Mathlib.Omega.{arith}
 use borrow.Author.Tests.{eq-eqb, ne-eqb, le-ltb}
-use lib.Dec.{eqb}
-use lib.ListN.{length, getD, take, drop}
-use lib.Seq.{length-take-le, drop-drop}
+use lib.ListN.{length, getD}
+use lib.Seq.{drop-drop}
 use borrow.Rule.Slice.PartMut.{midOf}
 use Rattle.families.specs.Families.{familyOf, nodeCount}
 use Rattle.blocks.specs.Blocks.{blockOf}
@@ -17,8 +16,7 @@ use Rattle.checks.specs.Checks.{firstMet}
 use Rattle.checks.proofs.Laws.{none-zero, parameters-in}
 use Rattle.lists.specs.Lists.{rises, placeIn}
 use Rattle.boxes.specs.Box.{lengthIn, heldIn, namesIn, bodiesIn, nodesIn, boxChecks, bodyChecks, bodyPlace, bodyOf}
-use Rattle.boxes.specs.Bodies.{bodiesOf, boxOf, withBodies}
-use Rattle.boxes.specs.Places.{ListIn}
+use Rattle.boxes.specs.Bodies.{boxOf, withBodies}
 use Rattle.boxes.specs.Names.{nameChecks}
 use Rattle.boxes.specs.Claims.{AcceptedBox, BoxClaim, BodyClaims, BodyClaim, BoxOfBodyClaim}
 use Rattle.boxes.proofs.Answers.{by-names, by-none, body-part}

@@ -1,6 +1,6 @@
 -- What is proved of every order of checks, and of 1 to 3; `checks-claim` and `range-claim` of proofs/Laws.antt are the proofs.
 use mathlib.Core.Path.{_≡_}
-use mathlib.Core.Bool.{Bool, true, false}
+use mathlib.Core.Bool.{true, false}
 use mathlib.Core.List.{List, [], _∷_, _++_}
 use mathlib.Core.Logic.{_↔_}
 use Prim.Native.Nat.{ℕ, suc, _≤_}

@@ -3,24 +3,22 @@
 use mathlib.Core.Path.{_≡_, refl, sym, ap, _∙_, subst}
 use mathlib.Core.Bool.{Bool, true, false, cond}
 use mathlib.Core.List.{List, [], _∷_, _++_, append-assoc}
-use Prim.Native.Nat.{ℕ, zero, suc, _+_, _*_, _≤_, _<_}
+use Prim.Native.Nat.{ℕ, _+_, _*_}
 use native.Mathlib.Omega.{arith}
 use borrow.Author.Tests.{eq-eqb, ne-eqb, not-false}
-use lib.Dec.{eqb, ltb}
+use lib.Dec.{ltb}
 use lib.ListN.{length, drop}
 use Rattle.checks.specs.Checks.{Check, _gives_, firstMet}
 use Rattle.checks.specs.Claims.{NoneMet}
-use Rattle.checks.proofs.Laws.{accepted, numbered, none-append, some-append}
+use Rattle.checks.proofs.Laws.{accepted, none-append, some-append}
 use Rattle.lists.specs.Lists.{someOutside, rises, listChecks, someMissing, liveNodes}
 use Rattle.lists.proofs.Laws.{list-accepted}
-use Rattle.boxes.specs.Box.{lengthIn, heldIn, namesIn, bodiesIn, nodesIn, boxLength, boxChecks}
+use Rattle.boxes.specs.Box.{lengthIn, namesIn, bodiesIn, nodesIn, boxLength, boxChecks}
 use Rattle.boxes.specs.Bodies.{boxOf, withBodies}
 use Rattle.boxes.proofs.Answers.{box-none}
 use Rattle.repair.specs.declared.Session.{Session}
-use Rattle.repair.specs.declared.Started.{Started}
-use Rattle.repair.specs.declared.Written.{Written}
 use Rattle.repair.specs.Session.{refusedStart, nodesOf, nodesChecks}
-use Rattle.repair.specs.Boxed.{sessionIn, boxAnswer, checkedBox, readChecks, readBox, nodesRead, listed, writtenLength, writeChecks, written, outWritten}
+use Rattle.repair.specs.Boxed.{sessionIn, boxAnswer, readChecks, readBox, nodesRead, listed, writtenLength, writeChecks, written, outWritten}
 use Rattle.repair.proofs.StartLaws.{nodes-none}
 
 -- ---- a box

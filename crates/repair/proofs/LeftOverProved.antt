@@ -27,7 +27,7 @@ module _ (family k L : ℕ) (list : List ℕ) (start : FromStart family k L list
   abbrev after : List Call → List ℕ
   after calls = liveAfter family k L list calls
 
-  session-is : (calls : List Call) → lastSession family k L list calls ≡ sessionOf family k L (after calls)
+  pub session-is : (calls : List Call) → lastSession family k L list calls ≡ sessionOf family k L (after calls)
   session-is calls = ap (λ (s : Session). sessionAfterAll s calls) (start .session) ∙ calls-session family k L calls list
 
   first : Grown f k list list

@@ -11,3 +11,5 @@ pub mod RepairsProved
 pub mod LeftOverLaws
 pub mod CallLaws
 pub mod LeftOverProved
+pub mod FitsLaws
+pub mod WholeWayProved

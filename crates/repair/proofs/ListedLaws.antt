@@ -1,23 +1,20 @@
--- The data blocks of two nodes buffers that agree at the nodes of a list.
+-- First numbers, places in lists, and the data blocks of two nodes buffers.
 -- Assumes nothing.
-use mathlib.Core.Path.{_≡_, refl, sym, _∙_}
+use mathlib.Core.Path.{_≡_, refl, sym}
 use mathlib.Core.Bool.{Bool, true, false, cond}
 use mathlib.Core.List.{List, [], _∷_}
 use mathlib.Core.Logic.{⊎-elim}
 use Prim.Native.Nat.{ℕ, zero, suc, _+_, _≤_, _<_}
 use native.Mathlib.Nat.{eq-or-lt-of-le}
 use native.Mathlib.Omega.{arith}
-use borrow.Author.Tests.{eqb-true, ltb-true, not-false}
+use borrow.Author.Tests.{eqb-true}
 use lib.Dec.{eqb}
 use lib.ListN.{length, getD}
 use Rattle.families.specs.declared.Family.{Family}
-use Rattle.families.specs.Families.{KInRange, nodeCount, firstFrom}
-use Rattle.families.proofs.Laws.{few}
+use Rattle.families.specs.Families.{firstFrom}
 use Rattle.blocks.specs.Blocks.{blockOf}
-use Rattle.lists.specs.Lists.{someOutside, placeIn, noneLive, setLive, isLive}
-use Rattle.lists.proofs.Laws.{live-of-list, outside-more}
-use Rattle.readout.specs.DataBlocks.{dataNode, missingBlock, dataBlocks}
-use Rattle.readout.proofs.Laws.{data-node}
+use Rattle.lists.specs.Lists.{placeIn}
+use Rattle.readout.specs.DataBlocks.{dataNode, dataBlocks}
 
 -- where no number of a range above 0 passes a test, each fails it
 pub first-zero : (test : ℕ → Bool) (j m : ℕ) → 1 ≤ j → firstFrom test j m ≡ 0 → (h : ℕ) → j ≤ h → h < j + m → test h ≡ false
@@ -30,7 +27,7 @@ first-zero test j (suc m) l e h a b = go (test j) refl e (λ z g. first-zero tes
     go false p z later = ⊎-elim (λ (q : j ≡ h). rw (sym q) p) (λ (g : j < h). later z g) (eq-or-lt-of-le a)
 
 -- the place of a number that is in a list
-place-there : (list : List ℕ) (j : ℕ) → placeIn list j < length list → getD list (placeIn list j) 0 ≡ j
+pub place-there : (list : List ℕ) (j : ℕ) → placeIn list j < length list → getD list (placeIn list j) 0 ≡ j
 unfolding placeIn
 place-there [] j h = absurd (omega arith)
 place-there (x ∷ list) j h = go (eqb x j) refl (place-there list j) h
@@ -47,19 +44,3 @@ module _ (f : Family) (k L : ℕ) (nodes other : List ℕ) where
   unfolding dataBlocks
   same-blocks zero h = refl
   same-blocks (suc m) h = rw (same-blocks m (λ i a b. h i a (omega arith)), h (suc m) (omega arith) (omega arith))
-
-  -- and so have buffers that agree at the nodes of a list, where no data block's node is missing from it
-  pub listed-blocks : (list : List ℕ) → KInRange f k → someOutside (nodeCount f k) list ≡ false → missingBlock f k (setLive noneLive list) ≡ 0
-      → ((i : ℕ) → i < length list → blockOf L nodes (getD list i 0) ≡ blockOf L other (getD list i 0))
-      → dataBlocks f k L nodes k ≡ dataBlocks f k L other k
-  unfolding missingBlock
-  listed-blocks list r o e h = same-blocks k at
-    where
-      place : (i : ℕ) → 1 ≤ i → i ≤ k → placeIn list (dataNode f k i) < length list
-      place i a b =
-          let d = data-node f k i r a b in
-          let live = not-false (isLive (setLive noneLive list) (dataNode f k i)) (first-zero _ 1 k (omega arith) e i a (omega arith)) in
-          ltb-true _ _ (sym (live-of-list list (dataNode f k i) (omega (arith, d .is-node .last, few f k r)) (outside-more (nodeCount f k) 255 list (few f k r) o)) ∙ live)
-
-      at : (i : ℕ) → 1 ≤ i → i ≤ k → blockOf L nodes (dataNode f k i) ≡ blockOf L other (dataNode f k i)
-      at i a b = let p = place i a b in rw (place-there list (dataNode f k i) p) at (h (placeIn list (dataNode f k i)) p)

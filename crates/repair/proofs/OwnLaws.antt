@@ -1,7 +1,7 @@
 -- Steps and runs as calls on a session and a nodes buffer: a run is its plan's steps, and both keep the object's own blocks.
 -- Assumes nothing.
-use mathlib.Core.Path.{_≡_, refl, sym, ap, ap₂, _∙_, subst}
-use mathlib.Core.Bool.{Bool, true, false, not, _||_, false≢true}
+use mathlib.Core.Path.{_≡_, refl, sym, ap₂, _∙_, subst}
+use mathlib.Core.Bool.{Bool, true, false, _||_, false≢true}
 use mathlib.Core.List.{List, [], _∷_, map}
 use Prim.Native.Nat.{ℕ, zero, suc, _+_, _-_, _*_, _≤_, _<_}
 use native.Mathlib.Decide.{ℕ-discrete}
@@ -10,7 +10,8 @@ use borrow.Author.Tests.{eqb-true, not-false}
 use lib.Dec.{eqb}
 use lib.ListN.{length, set, length-set}
 use lib.Seq.{getD-set-same, getD-set-other}
-use Rattle.families.specs.Families.{familyOf, IsNode, columnOf}
+use Rattle.families.specs.declared.Family.{Family}
+use Rattle.families.specs.Families.{familyOf, KInRange, IsNode, columnOf}
 use Rattle.families.proofs.Laws.{few}
 use Rattle.blocks.specs.Blocks.{xorBytes, blockOf, InBuffer}
 use Rattle.blocks.proofs.BlockLaws.{in-buffer, blockOf-same, blockOf-other}
@@ -21,10 +22,11 @@ use Rattle.checks.proofs.Laws.{accepted}
 use Rattle.encoding.specs.Matrix.{nodeBlock, nodesBuffer}
 use Rattle.encoding.proofs.Nodes.{related-block, buffer-block}
 use Rattle.lists.specs.Lists.{isLive, setLive, someLive, liveOutside}
-use Rattle.lists.proofs.MarkLaws.{live-keeps}
+use Rattle.lists.proofs.MarkLaws.{set-keeps, live-keeps}
 use Rattle.planning.specs.Claims.{CanMakeAll}
 use Rattle.planning.specs.Made.{mended, nodesMade}
-use Rattle.planning.specs.Plan.{Step, repairedNodes}
+use Rattle.planning.specs.Pairs.{NoPairLeft}
+use Rattle.planning.specs.Plan.{Step, repairedNodes, lastRound, nodesLeft}
 use Rattle.planning.proofs.CarryLaws.{length-mended}
 use Rattle.planning.proofs.Proved.{plan-claim}
 use Rattle.readout.specs.DataBlocks.{dataNode, missingBlock}
@@ -59,18 +61,18 @@ start-kept s j n = rw (outside-kept (nodesOf s) (s .live) j (n .first) (n .last)
 -- ---- a step, accepted
 
 -- what it gives
-abbrev sessionWith : Session → Step → Session
+abbrev pub sessionWith : Session → Step → Session
 sessionWith s made = withLive s (made .node ∷ [])
 
-abbrev nodesWith : Session → List ℕ → Step → List ℕ
+abbrev pub nodesWith : Session → List ℕ → Step → List ℕ
 nodesWith s nodes made = mended (s .len) nodes (made .node) (made .smaller) (made .larger)
 
 module _ (s : Session) (nodes : List ℕ) (made : Step) (w : AcceptedStep s nodes made) where
-  session-stepped : stepped s nodes (made .node) (made .smaller) (made .larger) .session ≡ sessionWith s made
+  pub session-stepped : stepped s nodes (made .node) (made .smaller) (made .larger) .session ≡ sessionWith s made
   unfolding stepped
   session-stepped = rw (step-accepted s nodes made w)
 
-  nodes-stepped : nodesStepped s nodes (made .node) (made .smaller) (made .larger) ≡ nodesWith s nodes made
+  pub nodes-stepped : nodesStepped s nodes (made .node) (made .smaller) (made .larger) ≡ nodesWith s nodes made
   unfolding nodesStepped
   nodes-stepped = rw (step-accepted s nodes made w)
 
@@ -94,7 +96,7 @@ module _ (s : Session) (nodes : List ℕ) (made : Step) (w : AcceptedStep s node
   block-kept : (i : ℕ) → IsNode (familyOf (s .family)) (s .k) i → (i ≡ made .node → ⊥) → blockOf (s .len) (nodesWith s nodes made) i ≡ blockOf (s .len) nodes i
   block-kept i n d = blockOf-other (s .len) nodes (made .node) block (in-nodes (made .node) (w .makes .node)) full i (n .first) d
 
-  sized-stepped : Sized (sessionWith s made) (length (nodesWith s nodes made))
+  pub sized-stepped : Sized (sessionWith s made) (length (nodesWith s nodes made))
   sized-stepped =
       let m = w .makes in
       record {
@@ -120,21 +122,40 @@ unfolding nodesMade setLive
 steps-sized s nodes [] z a = z
 steps-sized s nodes (x ∷ steps) z a = steps-sized (sessionWith s x) (nodesWith s nodes x) steps (sized-stepped s nodes x (record { buffer = z; makes = a .0 })) (a .1)
 
--- the blocks of nodes that are missing after them are as they were
-steps-keep : (s : Session) (nodes : List ℕ) (steps : List Step) → Sized s (length nodes) → length (s .live) ≡ 256 → CanMakeAll (familyOf (s .family)) (s .k) (s .live) steps
-    → (j : ℕ) → IsNode (familyOf (s .family)) (s .k) j → isLive (setLive (s .live) (repairedNodes steps)) j ≡ false
+-- no step of them repairs node j
+abbrev Apart : ℕ → List Step → Type 0
+Apart j [] = Unit {0}
+Apart j (x ∷ steps) = (j ≡ x .node → ⊥) × Apart j steps
+
+-- the blocks of nodes that none of them repairs are as they were
+steps-keep : (s : Session) (nodes : List ℕ) (steps : List Step) → Sized s (length nodes) → CanMakeAll (familyOf (s .family)) (s .k) (s .live) steps
+    → (j : ℕ) → IsNode (familyOf (s .family)) (s .k) j → Apart j steps
     → blockOf (s .len) (nodesMade (s .len) nodes steps) j ≡ blockOf (s .len) nodes j
 unfolding nodesMade setLive
-steps-keep s nodes [] z size a j n m = refl
-steps-keep s nodes (x ∷ steps) z size a j n m =
+steps-keep s nodes [] z a j n d = refl
+steps-keep s nodes (x ∷ steps) z a j n d =
     let w : AcceptedStep s nodes x = record { buffer = z; makes = a .0 } in
-    let here = getD-set-same (s .live) (x .node) true false (omega (arith, size, x-few w)) in
-    let d : j ≡ x .node → ⊥ = λ e. false≢true (sym m ∙ live-keeps (set (s .live) (x .node) true) (repairedNodes steps) j (rw e here)) in
-    steps-keep (sessionWith s x) (nodesWith s nodes x) steps (sized-stepped s nodes x w) (length-set (s .live) (x .node) true ∙ size) (a .1) j n m
-    ∙ block-kept s nodes x w j n d
-  where
-    x-few : AcceptedStep s nodes x → x .node ≤ 255
-    x-few w = omega (arith, w .makes .node .last, few (familyOf (s .family)) (s .k) (known s (w .buffer .starts) .range .blocks))
+    steps-keep (sessionWith s x) (nodesWith s nodes x) steps (sized-stepped s nodes x w) (a .1) j n (d .1)
+    ∙ block-kept s nodes x w j n (d .0)
+
+-- such are the nodes that are missing after them
+left-apart : (f : Family) (k : ℕ) → KInRange f k → (marks : List Bool) (steps : List Step) → length marks ≡ 256 → CanMakeAll f k marks steps
+    → (j : ℕ) → isLive (setLive marks (repairedNodes steps)) j ≡ false → Apart j steps
+unfolding setLive
+left-apart f k r marks [] size a j m = tt
+left-apart f k r marks (x ∷ steps) size a j m =
+    let here = getD-set-same marks (x .node) true false (omega (arith, size, a .0 .node .last, few f k r)) in (
+      (λ e. false≢true (sym m ∙ live-keeps (set marks (x .node) true) (repairedNodes steps) j (rw e here))),
+      left-apart f k r (set marks (x .node) true) steps (length-set marks (x .node) true ∙ size) (a .1) j m,
+    )
+
+-- and those that are live before them
+live-apart : (f : Family) (k : ℕ) (marks : List Bool) (steps : List Step) → CanMakeAll f k marks steps → (j : ℕ) → isLive marks j ≡ true → Apart j steps
+live-apart f k marks [] a j l = tt
+live-apart f k marks (x ∷ steps) a j l = (
+  (λ e. false≢true (sym (a .0 .missing) ∙ rw (sym e) l)),
+  live-apart f k (set marks (x .node) true) steps (a .1) j (set-keeps marks (x .node) j l),
+)
 
 module _ (s : Session) (nodes : List ℕ) (e : firstMet (runChecks s nodes) ≡ 0) where
   -- what an accepted run says
@@ -145,28 +166,64 @@ module _ (s : Session) (nodes : List ℕ) (e : firstMet (runChecks s nodes) ≡ 
   pub run-known : Known s
   run-known = known s (run-sized .starts)
 
+  pub ran-accepted : ran s nodes .refusal ≡ 0
+  unfolding ran
+  ran-accepted = rw e
+
   pub session-ran : ran s nodes .session ≡ withLive s (repairedNodes (planIn s))
   unfolding ran
   session-ran = rw e
 
+  -- the plan's steps can be made
+  plan-makes : length (s .live) ≡ 256 → CanMakeAll (familyOf (s .family)) (s .k) (s .live) (planIn s)
+  plan-makes size = plan-claim (familyOf (s .family)) (s .k) (run-known .range .blocks) (s .live) size .makes
+
   pub ran-sized : length (s .live) ≡ 256 → Sized (ran s nodes .session) (length (nodesRan s nodes))
   unfolding ran nodesRan
-  ran-sized size = rw e (steps-sized s nodes (planIn s) run-sized (plan-claim (familyOf (s .family)) (s .k) (run-known .range .blocks) (s .live) size .makes))
+  ran-sized size = rw e (steps-sized s nodes (planIn s) run-sized (plan-makes size))
 
-  nodes-ran : nodesRan s nodes ≡ nodesMade (s .len) nodes (planIn s)
+  pub nodes-ran : nodesRan s nodes ≡ nodesMade (s .len) nodes (planIn s)
   unfolding nodesRan
   nodes-ran = rw e
 
-  pub run-keeps : length (s .live) ≡ 256 → (j : ℕ) → IsNode (familyOf (s .family)) (s .k) j → isLive (ran s nodes .session .live) j ≡ false
-      → blockOf (s .len) (nodesRan s nodes) j ≡ blockOf (s .len) nodes j
-  run-keeps size j n m =
-      rw nodes-ran (steps-keep s nodes (planIn s) run-sized size (plan-claim (familyOf (s .family)) (s .k) (run-known .range .blocks) (s .live) size .makes) j n
-      (rw session-ran at m))
+  -- a node that the plan does not repair keeps its block
+  module _ (size : length (s .live) ≡ 256) where
+    run-keeps : (j : ℕ) → IsNode (familyOf (s .family)) (s .k) j → Apart j (planIn s) → blockOf (s .len) (nodesRan s nodes) j ≡ blockOf (s .len) nodes j
+    run-keeps j n d = rw nodes-ran (steps-keep s nodes (planIn s) run-sized (plan-makes size) j n d)
+
+    pub run-keeps-left : (j : ℕ) → IsNode (familyOf (s .family)) (s .k) j → isLive (ran s nodes .session .live) j ≡ false
+        → blockOf (s .len) (nodesRan s nodes) j ≡ blockOf (s .len) nodes j
+    run-keeps-left j n m =
+        run-keeps j n (left-apart (familyOf (s .family)) (s .k) (run-known .range .blocks) (s .live) (planIn s) size (plan-makes size) j (rw session-ran at m))
+
+    pub run-keeps-live : (j : ℕ) → IsNode (familyOf (s .family)) (s .k) j → isLive (s .live) j ≡ true
+        → blockOf (s .len) (nodesRan s nodes) j ≡ blockOf (s .len) nodes j
+    run-keeps-live j n l = run-keeps j n (live-apart (familyOf (s .family)) (s .k) (s .live) (planIn s) (plan-makes size) j l)
 
   pub run-steps : length (s .live) ≡ 256 → heldAfter s nodes (map asMove (planIn s)) ≡ record { session = ran s nodes .session; nodes = nodesRan s nodes }
   run-steps size =
-      steps-held s nodes (planIn s) run-sized (plan-claim (familyOf (s .family)) (s .k) (run-known .range .blocks) (s .live) size .makes)
+      steps-held s nodes (planIn s) run-sized (plan-makes size)
       ∙ rw (session-ran, nodes-ran)
+
+-- ---- a run where no pair is left
+
+no-steps : (f : Family) (k : ℕ) (marks : List Bool) (steps : List Step) → CanMakeAll f k marks steps → NoPairLeft f k (isLive marks) → steps ≡ []
+no-steps f k marks [] a done = refl
+no-steps f k marks (x ∷ steps) a done =
+    let m = a .0 in
+    absurd (done (x .node) (x .smaller) (x .larger) (m .node) (m .smaller) (m .larger) (m .missing) (m .smaller-live) (m .larger-live) (m .related))
+
+module _ (s : Session) (nodes : List ℕ) (e : firstMet (runChecks s nodes) ≡ 0) (size : length (s .live) ≡ 256) (done : NoPairLeft (familyOf (s .family)) (s .k) (isLive (s .live))) where
+  no-plan : planIn s ≡ []
+  no-plan = no-steps (familyOf (s .family)) (s .k) (s .live) (planIn s) (plan-makes s nodes e size) done
+
+  pub quiet-answer : ran s nodes ≡ record { refusal = 0; steps = 0; rounds = 0; left = nodesLeft (s .live) (nodesOf s); session = s }
+  unfolding ran setLive lastRound
+  quiet-answer = rw (e, no-plan)
+
+  pub quiet-nodes : nodesRan s nodes ≡ nodes
+  unfolding nodesRan nodesMade
+  quiet-nodes = rw (e, no-plan)
 
 -- ---- the session that a call gives back
 

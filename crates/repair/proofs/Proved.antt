@@ -12,7 +12,7 @@ use Rattle.families.specs.Families.{familyOf, nodeCount}
 use Rattle.families.proofs.Laws.{few}
 use Rattle.checks.specs.Checks.{firstMet}
 use Rattle.checks.proofs.Laws.{parameters-in}
-use Rattle.lists.specs.Lists.{someOutside, liveNodes, liveOutside}
+use Rattle.lists.specs.Lists.{liveNodes, liveOutside}
 use Rattle.lists.proofs.Laws.{live-of-list, marks-of-live-nodes, list-outside-none, outside-more}
 use Rattle.boxes.specs.Box.{familyIn, kIn, lengthIn, namesIn, heldIn, boxLength, boxChecks}
 use Rattle.boxes.proofs.Answers.{by-length, by-box, body-empty}

@@ -9,11 +9,10 @@ use borrow.Author.Tests.{eq-eqb, ne-eqb}
 use lib.Dec.{eqb}
 use lib.ListN.{length}
 use Rattle.families.specs.Families.{familyOf}
-use Rattle.checks.specs.Checks.{Check, _gives_, firstMet}
+use Rattle.checks.specs.Checks.{_gives_, firstMet}
 use Rattle.checks.proofs.Laws.{none-append, some-append}
 use Rattle.readout.specs.DataBlocks.{dataBlocks}
 use Rattle.repair.specs.declared.Session.{Session}
-use Rattle.repair.specs.declared.ReadOut.{ReadOut}
 use Rattle.repair.specs.Session.{noStart, nodesOf, nodesChecks}
 use Rattle.repair.specs.ReadOut.{missingIn, readOutChecks, readOut, objectOut}
 use Rattle.repair.proofs.StartLaws.{nodes-none}

@@ -1,19 +1,18 @@
 -- What the checks of a plan and of a run say, and what they give.
 -- Assumes nothing.
-use mathlib.Core.Path.{_≡_, refl, sym, ap, _∙_, subst}
-use mathlib.Core.Bool.{Bool, true, false, cond}
-use mathlib.Core.List.{List, [], _∷_, _++_}
+use mathlib.Core.Path.{_≡_, sym, ap, _∙_, subst}
+use mathlib.Core.Bool.{Bool, true, false}
+use mathlib.Core.List.{List, _++_}
 use Prim.Native.Nat.{ℕ, _+_, _*_, _≤_, _<_}
 use native.Mathlib.Omega.{arith}
 use borrow.Author.Tests.{ne-eqb, lt-ltb, le-ltb}
-use lib.Dec.{eqb, ltb}
 use lib.ListN.{length, take, drop}
 use lib.Seq.{take-at}
 use Rattle.families.specs.declared.Family.{Family}
 use Rattle.families.specs.Families.{familyOf, KInRange, nodeCount}
 use Rattle.families.proofs.Laws.{few}
-use Rattle.checks.specs.Checks.{Check, _gives_, firstMet}
-use Rattle.planning.specs.Plan.{planOf, repairedNodes, stepBytes, nodesLeft}
+use Rattle.checks.specs.Checks.{firstMet}
+use Rattle.planning.specs.Plan.{planOf, repairedNodes, stepBytes}
 use Rattle.planning.specs.Planned.{plannedOf}
 use Rattle.planning.specs.Made.{nodesMade, stepsIn, AllIn}
 use Rattle.planning.specs.declared.Planned.{Planned}

@@ -15,7 +15,7 @@ use Rattle.repair.specs.declared.Session.{Session}
 use Rattle.repair.specs.Session.{nodesOf, noStart}
 use Rattle.repair.specs.Repairs.{planIn, runChecks, ran, nodesRan}
 use Rattle.repair.specs.ReadOut.{readOutChecks, objectOut}
-use Rattle.repair.specs.Calls.{Move, step, sessionAfter, Held, heldAfter}
+use Rattle.repair.specs.Calls.{Move, step, sessionAfter, heldAfter}
 
 -- ---- marks for 0 and above n are never live
 

@@ -1,6 +1,6 @@
 -- Plan and run (document 01, "The session"): the plan of a session, listed, and carried out on a nodes buffer.
 use Prim.Native.Nat.{ℕ, _*_}
-use mathlib.Core.Bool.{Bool, cond}
+use mathlib.Core.Bool.{cond}
 use mathlib.Core.List.{List, [], _∷_, _++_}
 use lib.ListN.{length, drop}
 use lib.Dec.{eqb, ltb}

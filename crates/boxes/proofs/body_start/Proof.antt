@@ -3,7 +3,6 @@
 use mathlib.Core.Path.{_≡_}
 use Prim.Native.Nat.{_*_}
 use native.Mathlib.Omega.{arith}
-use borrow.Author.Needs.{needs}
 use Rattle.boxes.specs.Box.{lengthIn, namesIn, bodyPlace}
 use Rattle.boxes.proofs.Laws.{body-named, body-within}
 use Rattle.boxes.proofs.body_start.Statement.{statement}

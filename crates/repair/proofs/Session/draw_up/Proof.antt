@@ -1,13 +1,13 @@
 -- `repair::Session::draw_up` meets its contract: the plan is that of the session's family, and has a step at most for each node.
 -- Assumes nothing.
 use mathlib.Core.Path.{_≡_, sym, ap, _∙_, subst}
-use mathlib.Core.List.{List, _++_}
-use Prim.Native.Nat.{ℕ, _*_, _≤_}
+use mathlib.Core.List.{_++_}
+use Prim.Native.Nat.{_*_}
 use native.Mathlib.Omega.{arith}
 use borrow.Author.Needs.{needs}
 use lib.ListN.{length, drop}
 use Rattle.families.specs.declared.Family.{Family}
-use Rattle.families.specs.Families.{familyOf, KInRange}
+use Rattle.families.specs.Families.{KInRange}
 use Rattle.families.proofs.Laws.{few}
 use Rattle.planning.specs.Plan.{planOf, stepBytes}
 use Rattle.planning.specs.Planned.{plannedOf}

@@ -1,11 +1,8 @@
 -- `repair::Session::start` meets its contract.
 -- Assumes nothing.
-use mathlib.Core.Path.{_≡_, sym, _∙_, ap}
-use mathlib.Core.Bool.{Bool}
-use mathlib.Core.List.{List}
+use mathlib.Core.Path.{sym, _∙_, ap}
 use borrow.Author.Tests.{ne-eqb}
 use Rattle.repair.specs.Session.{started, refusedStart}
-use Rattle.repair.specs.declared.Started.{Started}
 use borrow.Author.Needs.{needs}
 use Rattle.repair.proofs.Session.start.Statement.{statement}
 use Rattle.repair.proofs.Session.start.Tie as tie

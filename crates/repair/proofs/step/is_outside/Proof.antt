@@ -1,6 +1,6 @@
 -- `repair::step::is_outside` meets its contract: below 1, or else above n.
 -- Assumes nothing.
-use mathlib.Core.Path.{_≡_, refl, sym}
+use mathlib.Core.Path.{sym}
 use native.Mathlib.Omega.{arith}
 use borrow.Author.Tests.{le-ltb}
 use Rattle.checks.proofs.Laws.{outside-low}

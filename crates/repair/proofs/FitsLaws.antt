@@ -1,0 +1,186 @@
+-- A session and a nodes buffer that go together: which calls give such a pair, and which they are accepted by.
+-- Assumes nothing.
+use mathlib.Core.Path.{_≡_, refl, sym, ap, _∙_}
+use mathlib.Core.Bool.{Bool, true, false, cond, not}
+use mathlib.Core.List.{List, []}
+use Prim.Native.Nat.{ℕ, _*_, _≤_}
+use native.Mathlib.Nat.{mul-le-mul-right}
+use native.Mathlib.Omega.{arith}
+use borrow.Author.Tests.{eqb-true, eq-eqb, le-ltb}
+use lib.Dec.{eqb}
+use lib.ListN.{length, length-set}
+use Rattle.families.specs.Families.{familyOf, nodeCount}
+use Rattle.families.proofs.Laws.{few}
+use Rattle.checks.specs.Checks.{firstMet}
+use Rattle.checks.proofs.Laws.{none-zero, none-append, parameters-in}
+use Rattle.lists.specs.Lists.{someOutside, rises, noneLive, setLive, someMissing, liveNodes}
+use Rattle.lists.proofs.Laws.{length-setLive, list-outside-none, live-nodes-few, marks-of-live-nodes}
+use Rattle.boxes.specs.Box.{lengthIn, namesIn, nodesIn, boxLength, boxChecks}
+use Rattle.boxes.proofs.Answers.{box-none}
+use Rattle.boxes.proofs.Laws.{accepted-box}
+use Rattle.planning.specs.Plan.{Step, repairedNodes}
+use Rattle.repair.specs.declared.Session.{Session}
+use Rattle.repair.specs.declared.Started.{Started}
+use Rattle.repair.specs.declared.Stepped.{Stepped}
+use Rattle.repair.specs.declared.Repairs.{Repairs}
+use Rattle.repair.specs.declared.Written.{Written}
+use Rattle.repair.specs.Session.{sessionOf, refusedStart, startChecks, started, nodesOf, nodesChecks}
+use Rattle.repair.specs.Boxed.{sessionIn, checkedBox, readChecks, readBox, nodesRead, writeChecks, written}
+use Rattle.repair.specs.Step.{stepChecks, stepped, nodesStepped}
+use Rattle.repair.specs.Repairs.{planIn, refusedRepairs, runChecks, ran, nodesRan}
+use Rattle.repair.specs.Calls.{Move, step, run, sessionAfter, nodesAfter}
+use Rattle.repair.specs.WholeWay.{Fits, SameCode, FitsClaim, WriteLiveClaim}
+use Rattle.repair.proofs.StartLaws.{known, no-start-marks, nodes-0, accepted-start}
+use Rattle.repair.proofs.StepLaws.{accepted-step}
+use Rattle.repair.proofs.RoundTripLaws.{accepted-write, box-starts, box-checked, accepted-read, read-size}
+use Rattle.repair.proofs.OwnLaws.{session-stepped, nodes-stepped, sized-stepped, session-ran, ran-sized}
+
+-- ---- an answer without a refusal was accepted
+
+accepted-answer : {R : Type 0} (get : R → ℕ) (done refused : R) (r : ℕ) → get refused ≡ r → get (cond (eqb r 0) done refused) ≡ 0 → r ≡ 0
+accepted-answer get done refused r e h = go (eqb r 0) refl h
+  where
+    go : (b : Bool) → eqb r 0 ≡ b → get (cond b done refused) ≡ 0 → r ≡ 0
+    go true p h = eqb-true r 0 p
+    go false p h = sym e ∙ h
+
+pub start-accepted : (family k L : ℕ) (list : List ℕ) → started family k L list .refusal ≡ 0 → firstMet (startChecks family k L list) ≡ 0
+unfolding started
+start-accepted family k L list h = accepted-answer (λ (r : Started). r .refusal) _ (refusedStart (firstMet (startChecks family k L list))) _ refl h
+
+pub check-accepted : (bytes : List ℕ) → checkedBox bytes .refusal ≡ 0 → firstMet (boxChecks bytes) ≡ 0
+unfolding checkedBox
+check-accepted bytes h = accepted-answer (λ (r : Started). r .refusal) _ (refusedStart (firstMet (boxChecks bytes))) _ refl h
+
+pub read-accepted : (bytes nodes : List ℕ) → readBox bytes nodes .refusal ≡ 0 → firstMet (readChecks bytes nodes) ≡ 0
+unfolding readBox
+read-accepted bytes nodes h = accepted-answer (λ (r : Started). r .refusal) _ (refusedStart (firstMet (readChecks bytes nodes))) _ refl h
+
+pub write-accepted : (s : Session) (nodes list out : List ℕ) → written s nodes list out .refusal ≡ 0 → firstMet (writeChecks s nodes list out) ≡ 0
+unfolding written
+write-accepted s nodes list out h =
+    accepted-answer (λ (r : Written). r .refusal) _ (record { refusal = firstMet (writeChecks s nodes list out); length = 0; session = s }) _ refl h
+
+pub run-accepted : (s : Session) (nodes : List ℕ) → ran s nodes .refusal ≡ 0 → firstMet (runChecks s nodes) ≡ 0
+unfolding ran
+run-accepted s nodes h = accepted-answer (λ (r : Repairs). r .refusal) _ (refusedRepairs s (firstMet (runChecks s nodes))) _ refl h
+
+-- ---- start and read
+
+module _ (family k L : ℕ) (list : List ℕ) (e : firstMet (startChecks family k L list) ≡ 0) where
+  pub session-started : started family k L list .session ≡ sessionOf family k L list
+  unfolding started
+  session-started = rw e
+
+  start-fits : (nodes : List ℕ) → length nodes ≡ nodeCount (familyOf family) k * L → Fits (started family k L list .session) nodes
+  start-fits nodes size =
+      let a = accepted-start family k L list e in
+      let s = sessionOf family k L list in
+      rw session-started
+      (record {
+        marks = length-setLive noneLive list;
+        starts = no-start-marks s (parameters-in family k L (a .range)) ∙ list-outside-none (nodesOf s) list (few (familyOf family) k (a .range .blocks)) (a .outside);
+        size = size;
+      })
+
+read-same : (bytes nodes : List ℕ) → firstMet (boxChecks bytes) ≡ 0 → length nodes ≡ nodesIn bytes * lengthIn bytes → readBox bytes nodes ≡ checkedBox bytes
+unfolding readBox checkedBox readChecks firstMet
+read-same bytes nodes e size =
+    let reads : firstMet (readChecks bytes nodes) ≡ 0 = none-append (boxChecks bytes) _ (box-none bytes e) ∙ simp (eq-eqb (length nodes) (nodesIn bytes * lengthIn bytes) size) in
+    rw (reads, e)
+
+module _ (bytes nodes : List ℕ) (e : firstMet (readChecks bytes nodes) ≡ 0) where
+  pub session-read : readBox bytes nodes .session ≡ sessionIn bytes
+  unfolding readBox
+  session-read = rw e
+
+  pub read-fits : Fits (readBox bytes nodes .session) (nodesRead bytes nodes)
+  read-fits =
+      rw session-read
+      (record {
+        marks = length-setLive noneLive (namesIn bytes);
+        starts = box-starts bytes (accepted-box bytes (accepted-read bytes nodes e .passes));
+        size = read-size bytes nodes e;
+      })
+
+-- ---- steps and runs
+
+module _ (s : Session) (nodes : List ℕ) where
+  pub fits-runs : Fits s nodes → firstMet (runChecks s nodes) ≡ 0
+  unfolding runChecks
+  fits-runs f = nodes-0 s (length nodes) (f .starts) (f .size)
+
+  fits-ran : Fits s nodes → Fits (ran s nodes .session) (nodesRan s nodes)
+  fits-ran f =
+      let e = fits-runs f in
+      let z = ran-sized s nodes e (f .marks) in
+      record { marks = rw (session-ran s nodes e) (length-setLive (s .live) (repairedNodes (planIn s)) ∙ f .marks); starts = z .starts; size = z .size }
+
+  fits-stepped : Fits s nodes → (j a b : ℕ) → Fits (stepped s nodes j a b .session) (nodesStepped s nodes j a b)
+  unfolding stepped nodesStepped setLive
+  fits-stepped f j a b = go (eqb (firstMet (stepChecks s nodes j a b)) 0) refl
+    where
+      made : Step
+      made = record { round = 0; node = j; smaller = a; larger = b }
+
+      go : (met : Bool) → eqb (firstMet (stepChecks s nodes j a b)) 0 ≡ met → Fits (stepped s nodes j a b .session) (nodesStepped s nodes j a b)
+      go true e =
+          let w = accepted-step s nodes made (eqb-true _ 0 e) in
+          let z = sized-stepped s nodes made w in
+          rw (session-stepped s nodes made w, nodes-stepped s nodes made w)
+          (record { marks = length-set (s .live) j true ∙ f .marks; starts = z .starts; size = z .size })
+      go false e = rw e f
+
+  pub fits-call : Fits s nodes → (move : Move) → Fits (sessionAfter s nodes move) (nodesAfter s nodes move)
+  fits-call f (step j a b) = fits-stepped f j a b
+  fits-call f run = fits-ran f
+
+  -- family, k and L stay, whatever is asked for
+  same-either : {R : Type 0} (get : R → Session) (done refused : R) → SameCode s (get done) → SameCode s (get refused) → (b : Bool) → SameCode s (get (cond b done refused))
+  same-either get done refused y n true = y
+  same-either get done refused y n false = n
+
+  itself : SameCode s s
+  itself = record { family = refl; k = refl; len = refl }
+
+  pub same-code : (move : Move) → SameCode s (sessionAfter s nodes move)
+  unfolding stepped ran
+  same-code (step j a b) =
+      same-either (λ (r : Stepped). r .session) _ (record { refusal = firstMet (stepChecks s nodes j a b); session = s })
+      (record { family = refl; k = refl; len = refl }) itself (eqb (firstMet (stepChecks s nodes j a b)) 0)
+  same-code run =
+      same-either (λ (r : Repairs). r .session) _ (refusedRepairs s (firstMet (runChecks s nodes)))
+      (record { family = refl; k = refl; len = refl }) itself (eqb (firstMet (runChecks s nodes)) 0)
+
+-- ---- every live node written
+
+fits-write : (s : Session) (nodes out : List ℕ) → Fits s nodes → boxLength (nodesOf s) (s .len) ≤ length out → written s nodes [] out .refusal ≡ 0
+unfolding written writeChecks nodesChecks someOutside rises someMissing
+fits-write s nodes out f room =
+    let few-live = live-nodes-few (s .live) (nodesOf s) in
+    let none : firstMet (writeChecks s nodes [] out) ≡ 0
+    = none-zero (writeChecks s nodes [] out)
+    (f .starts, (ap not (eq-eqb (length nodes) (nodesOf s * s .len) (f .size)), (refl, (refl, (refl, (le-ltb (length out) (boxLength (length (liveNodes (s .live) (nodesOf s))) (s .len)) (omega (arith, few-live, mul-le-mul-right (s .len) few-live)), tt)))))) in
+    rw none
+
+pub fits-claim : FitsClaim
+unfolding ran
+fits-claim =
+    record {
+      start = λ family k L list nodes h size. start-fits family k L list (start-accepted family k L list h) nodes size;
+      read = λ bytes nodes h size. read-same bytes nodes (check-accepted bytes h) size;
+      read-fits = λ bytes nodes h. read-fits bytes nodes (read-accepted bytes nodes h);
+      call = fits-call;
+      same = same-code;
+      run = λ s nodes f. rw (fits-runs s nodes f);
+      write = fits-write;
+    }
+
+-- the listed nodes are all that are live, so their session is the one that they were listed from
+pub write-live-claim : WriteLiveClaim
+write-live-claim s nodes out size h =
+    let e = write-accepted s nodes [] out h in
+    let g = known s (accepted-write s nodes [] out e .starts) in
+    box-checked s nodes [] out e
+    ∙ ap (λ (live : List Bool). record { refusal = 0; session = record { family = s .family; k = s .k; len = s .len; live = live } })
+    (marks-of-live-nodes (nodesOf s) (s .live) size (few (familyOf (s .family)) (s .k) (g .range .blocks)) (g .inside))
