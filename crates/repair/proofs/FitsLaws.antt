@@ -1,6 +1,6 @@
 -- A session and a nodes buffer that go together: which calls give such a pair, and which they are accepted by.
 -- Assumes nothing.
-use mathlib.Core.Path.{_≡_, refl, sym, ap, _∙_}
+use mathlib.Core.Path.{_≡_, refl, ap, _∙_}
 use mathlib.Core.Bool.{Bool, true, false, cond, not}
 use mathlib.Core.List.{List, []}
 use Prim.Native.Nat.{ℕ, _*_, _≤_}
@@ -20,50 +20,19 @@ use Rattle.boxes.proofs.Answers.{box-none}
 use Rattle.boxes.proofs.Laws.{accepted-box}
 use Rattle.planning.specs.Plan.{Step, repairedNodes}
 use Rattle.repair.specs.declared.Session.{Session}
-use Rattle.repair.specs.declared.Started.{Started}
 use Rattle.repair.specs.declared.Stepped.{Stepped}
 use Rattle.repair.specs.declared.Repairs.{Repairs}
-use Rattle.repair.specs.declared.Written.{Written}
-use Rattle.repair.specs.Session.{sessionOf, refusedStart, startChecks, started, nodesOf, nodesChecks}
+use Rattle.repair.specs.Session.{sessionOf, startChecks, started, nodesOf, nodesChecks}
 use Rattle.repair.specs.Boxed.{sessionIn, checkedBox, readChecks, readBox, nodesRead, writeChecks, written}
 use Rattle.repair.specs.Step.{stepChecks, stepped, nodesStepped}
 use Rattle.repair.specs.Repairs.{planIn, refusedRepairs, runChecks, ran, nodesRan}
 use Rattle.repair.specs.Calls.{Move, step, run, sessionAfter, nodesAfter}
 use Rattle.repair.specs.WholeWay.{Fits, SameCode, FitsClaim, WriteLiveClaim}
+use Rattle.repair.proofs.Accepted.{start-accepted, check-accepted, read-accepted, write-accepted}
 use Rattle.repair.proofs.StartLaws.{known, no-start-marks, nodes-0, accepted-start}
 use Rattle.repair.proofs.StepLaws.{accepted-step}
 use Rattle.repair.proofs.RoundTripLaws.{accepted-write, box-starts, box-checked, accepted-read, read-size}
 use Rattle.repair.proofs.OwnLaws.{session-stepped, nodes-stepped, sized-stepped, session-ran, ran-sized}
-
--- ---- an answer without a refusal was accepted
-
-accepted-answer : {R : Type 0} (get : R → ℕ) (done refused : R) (r : ℕ) → get refused ≡ r → get (cond (eqb r 0) done refused) ≡ 0 → r ≡ 0
-accepted-answer get done refused r e h = go (eqb r 0) refl h
-  where
-    go : (b : Bool) → eqb r 0 ≡ b → get (cond b done refused) ≡ 0 → r ≡ 0
-    go true p h = eqb-true r 0 p
-    go false p h = sym e ∙ h
-
-pub start-accepted : (family k L : ℕ) (list : List ℕ) → started family k L list .refusal ≡ 0 → firstMet (startChecks family k L list) ≡ 0
-unfolding started
-start-accepted family k L list h = accepted-answer (λ (r : Started). r .refusal) _ (refusedStart (firstMet (startChecks family k L list))) _ refl h
-
-pub check-accepted : (bytes : List ℕ) → checkedBox bytes .refusal ≡ 0 → firstMet (boxChecks bytes) ≡ 0
-unfolding checkedBox
-check-accepted bytes h = accepted-answer (λ (r : Started). r .refusal) _ (refusedStart (firstMet (boxChecks bytes))) _ refl h
-
-pub read-accepted : (bytes nodes : List ℕ) → readBox bytes nodes .refusal ≡ 0 → firstMet (readChecks bytes nodes) ≡ 0
-unfolding readBox
-read-accepted bytes nodes h = accepted-answer (λ (r : Started). r .refusal) _ (refusedStart (firstMet (readChecks bytes nodes))) _ refl h
-
-pub write-accepted : (s : Session) (nodes list out : List ℕ) → written s nodes list out .refusal ≡ 0 → firstMet (writeChecks s nodes list out) ≡ 0
-unfolding written
-write-accepted s nodes list out h =
-    accepted-answer (λ (r : Written). r .refusal) _ (record { refusal = firstMet (writeChecks s nodes list out); length = 0; session = s }) _ refl h
-
-pub run-accepted : (s : Session) (nodes : List ℕ) → ran s nodes .refusal ≡ 0 → firstMet (runChecks s nodes) ≡ 0
-unfolding ran
-run-accepted s nodes h = accepted-answer (λ (r : Repairs). r .refusal) _ (refusedRepairs s (firstMet (runChecks s nodes))) _ refl h
 
 -- ---- start and read
 

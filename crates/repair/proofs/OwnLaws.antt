@@ -166,10 +166,6 @@ module _ (s : Session) (nodes : List ℕ) (e : firstMet (runChecks s nodes) ≡ 
   pub run-known : Known s
   run-known = known s (run-sized .starts)
 
-  pub ran-accepted : ran s nodes .refusal ≡ 0
-  unfolding ran
-  ran-accepted = rw e
-
   pub session-ran : ran s nodes .session ≡ withLive s (repairedNodes (planIn s))
   unfolding ran
   session-ran = rw e

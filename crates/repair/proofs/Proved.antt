@@ -12,16 +12,17 @@ use Rattle.families.specs.Families.{familyOf, nodeCount}
 use Rattle.families.proofs.Laws.{few}
 use Rattle.checks.specs.Checks.{firstMet}
 use Rattle.checks.proofs.Laws.{parameters-in}
-use Rattle.lists.specs.Lists.{liveNodes, liveOutside}
+use Rattle.lists.specs.Lists.{noneLive, setLive, liveNodes, liveOutside}
 use Rattle.lists.proofs.Laws.{live-of-list, marks-of-live-nodes, list-outside-none, outside-more}
 use Rattle.boxes.specs.Box.{familyIn, kIn, lengthIn, namesIn, heldIn, boxLength, boxChecks}
 use Rattle.boxes.proofs.Answers.{by-length, by-box, body-empty}
 use Rattle.boxes.proofs.Laws.{accepted-box}
 use Rattle.boxes.proofs.Proved.{body-claim, box-of-body-claim}
-use Rattle.repair.specs.declared.Session.{Session}
+use Rattle.repair.specs.declared.Started.{Started}
 use Rattle.repair.specs.Session.{started, nodesOf, noStart}
 use Rattle.repair.specs.Boxed.{checkedBox, listed}
 use Rattle.repair.specs.Claims.{FromStart, NoStartClaim, StartMarksClaim, WriteReadClaim, ReadKeepsClaim, ReadWriteClaim, ReadBodyClaim, WrittenBodyClaim, BoxStartClaim, WrongCountClaim}
+use Rattle.repair.proofs.Accepted.{start-accepted, check-accepted, read-accepted, write-accepted}
 use Rattle.repair.proofs.StartLaws.{known, start-0, no-start-marks, accepted-start}
 use Rattle.repair.proofs.BoxedLaws.{read-by-box}
 use Rattle.repair.proofs.RoundTripLaws.{live-good, accepted-write, box-written, write-answer, write-room, write-rest, box-passes, box-checked, box-reads, bodies-read, accepted-read, read-is, read-keeps, again-all, again-named}
@@ -30,6 +31,7 @@ use Rattle.repair.proofs.RoundTripLaws.{live-good, accepted-write, box-
 
 -- the start is that of the live nodes
 pub no-start-claim : NoStartClaim
+unfolding started
 no-start-claim s size = (from, back)
   where
     from : noStart s ≡ false → FromStart s
@@ -39,32 +41,39 @@ no-start-claim s size = (from, back)
         let marks = marks-of-live-nodes (nodesOf s) (s .live) size (few (familyOf (s .family)) (s .k) (g .range .blocks)) (g .inside) in
         record {
           list = liveNodes (s .live) (nodesOf s);
-          accepted = start-0 (s .family) (s .k) (s .len) (liveNodes (s .live) (nodesOf s)) (parameters-in (s .family) (s .k) (s .len) (g .range)) (l .outside) (l .rising);
-          gives = ap (λ (live : List Bool). record { family = s .family; k = s .k; len = s .len; live = live }) marks;
+          gives =
+              rw (start-0 (s .family) (s .k) (s .len) (liveNodes (s .live) (nodesOf s)) (parameters-in (s .family) (s .k) (s .len) (g .range)) (l .outside) (l .rising))
+              (ap (λ (live : List Bool). record { refusal = 0; session = record { family = s .family; k = s .k; len = s .len; live = live } }) marks);
         }
 
     back : FromStart s → noStart s ≡ false
     back f =
-        let a = accepted-start (s .family) (s .k) (s .len) (f .list) (f .accepted) in
+        let e = start-accepted (s .family) (s .k) (s .len) (f .list) (ap (λ (r : Started). r .refusal) (f .gives)) in
+        let a = accepted-start (s .family) (s .k) (s .len) (f .list) e in
+        let is : setLive noneLive (f .list) ≡ s .live = ap (λ (r : Started). r .session .live) (rw e at (f .gives)) in
         no-start-marks s (parameters-in (s .family) (s .k) (s .len) (a .range))
-        ∙ sym (ap (λ (t : Session). liveOutside (nodesOf s) (t .live)) (f .gives))
+        ∙ ap (liveOutside (nodesOf s)) (sym is)
         ∙ list-outside-none (nodesOf s) (f .list) (few (familyOf (s .family)) (s .k) (a .range .blocks)) (a .outside)
 
 pub box-start-claim : BoxStartClaim
 unfolding checkedBox started
-box-start-claim bytes e =
+box-start-claim bytes h =
+    let e = check-accepted bytes h in
     let a = accepted-box bytes e in
     rw (e, start-0 (familyIn bytes) (kIn bytes) (lengthIn bytes) (namesIn bytes) (parameters-in (familyIn bytes) (kIn bytes) (lengthIn bytes) (a .range)) (a .nodes) (a .rising))
 
 pub start-marks-claim : StartMarksClaim
-start-marks-claim family k L list e j h =
+unfolding started
+start-marks-claim family k L list r j h =
+    let e = start-accepted family k L list r in
     let a = accepted-start family k L list e in
-    live-of-list list j h (outside-more (nodeCount (familyOf family) k) 255 list (few (familyOf family) k (a .range .blocks)) (a .outside))
+    rw e (live-of-list list j h (outside-more (nodeCount (familyOf family) k) 255 list (few (familyOf family) k (a .range .blocks)) (a .outside)))
 
--- ---- write, read and read out
+-- ---- write and read
 
 pub write-read-claim : WriteReadClaim
-write-read-claim s nodes list out e =
+write-read-claim s nodes list out h =
+    let e = write-accepted s nodes list out h in
     record {
       box = box-written s nodes list out e;
       answer = write-answer s nodes list out e;
@@ -76,20 +85,22 @@ write-read-claim s nodes list out e =
     }
 
 pub read-keeps-claim : ReadKeepsClaim
-read-keeps-claim bytes nodes e j p n = read-keeps bytes nodes e j p n
+read-keeps-claim bytes nodes h j p n = read-keeps bytes nodes (read-accepted bytes nodes h) j p n
 
 pub read-write-claim : ReadWriteClaim
-read-write-claim bytes nodes out byte e room = (again-all bytes nodes e byte out room, again-named bytes nodes e byte out room)
+read-write-claim bytes nodes out byte h room = let e = read-accepted bytes nodes h in (again-all bytes nodes e byte out room, again-named bytes nodes e byte out room)
 
 -- ---- the body of a node
 
 pub read-body-claim : ReadBodyClaim
-read-body-claim bytes nodes e i l =
+read-body-claim bytes nodes h i l =
+    let e = read-accepted bytes nodes h in
     let a = accepted-read bytes nodes e in
     rw (read-is bytes nodes e) (body-claim bytes (a .passes) i l .read nodes (a .size))
 
 pub written-body-claim : WrittenBodyClaim
-written-body-claim s nodes list out e i l =
+written-body-claim s nodes list out h i l =
+    let e = write-accepted s nodes list out h in
     rw (box-written s nodes list out e)
     (box-of-body-claim (s .family) (s .k) (s .len) (listed s list) nodes (box-passes s nodes list out e) (accepted-write s nodes list out e .size) i l)
 

@@ -11,43 +11,48 @@ use Rattle.planning.specs.Plan.{repairedNodes, nodesLeft}
 use Rattle.planning.proofs.Proved.{plan-claim}
 use Rattle.repair.specs.declared.Session.{Session}
 use Rattle.repair.specs.Session.{nodesOf}
+use Rattle.repair.specs.ReadOut.{readOut}
 use Rattle.repair.specs.Repairs.{planIn, runChecks, ran}
 use Rattle.repair.specs.Calls.{step, run, heldAfter}
 use Rattle.repair.specs.RepairClaims.{StaysClaim, RunIsStepsClaim, RunEndsClaim, PlacesKeptClaim, LiveKeptClaim, RunAgainClaim, OwnClaim}
+use Rattle.repair.proofs.Accepted.{run-accepted}
 use Rattle.repair.proofs.StartLaws.{nodes-0}
 use Rattle.repair.proofs.CallLaws.{ran-left}
-use Rattle.repair.proofs.OwnLaws.{stays-stepped, stays-ran, run-known, session-ran, ran-sized, ran-accepted, run-steps, run-keeps-left, run-keeps-live, quiet-answer, quiet-nodes, OwnHeld, own-moves, own-out}
+use Rattle.repair.proofs.OwnLaws.{stays-stepped, stays-ran, run-known, session-ran, ran-sized, run-steps, run-keeps-left, run-keeps-live, quiet-answer, quiet-nodes, OwnHeld, own-moves, own-out}
 
 pub stays-claim : StaysClaim
 stays-claim s size starts nodes (step j a b) = stays-stepped s starts nodes j a b
 stays-claim s size starts nodes run = stays-ran s starts nodes size
 
 pub run-is-steps : RunIsStepsClaim
-run-is-steps s size nodes e = run-steps s nodes e size
+run-is-steps s size nodes h = run-steps s nodes (run-accepted s nodes h) size
 
 pub run-ends : RunEndsClaim
-run-ends s size nodes e =
+run-ends s size nodes h =
+    let e = run-accepted s nodes h in
     subst (λ (after : Session). NoPairLeft (familyOf (s .family)) (s .k) (isLive (after .live))) (sym (session-ran s nodes e))
     (plan-claim (familyOf (s .family)) (s .k) (run-known s nodes e .range .blocks) (s .live) size .ends)
 
 pub places-kept : PlacesKeptClaim
-places-kept s size nodes e j n m = run-keeps-left s nodes e size j n m
+places-kept s size nodes h j n m = run-keeps-left s nodes (run-accepted s nodes h) size j n m
 
 pub live-kept : LiveKeptClaim
-live-kept s size nodes e j n l = run-keeps-live s nodes e size j n l
+live-kept s size nodes h j n l = run-keeps-live s nodes (run-accepted s nodes h) size j n l
 
 pub run-again : RunAgainClaim
 unfolding runChecks
-run-again s size nodes e other h =
+run-again s size nodes a other h =
+    let e = run-accepted s nodes a in
     let next = ran s nodes .session in
     let is = session-ran s nodes e in
     let marks : length (next .live) ≡ 256 = rw is (length-setLive (s .live) (repairedNodes (planIn s)) ∙ size) in
     let again : firstMet (runChecks next other) ≡ 0 = nodes-0 next (length other) (ran-sized s nodes e size .starts) (rw is h) in
-    let done : NoPairLeft (familyOf (next .family)) (next .k) (isLive (next .live)) = rw is (rw is at (run-ends s size nodes e)) in
-    let left : ran s nodes .left ≡ nodesLeft (next .live) (nodesOf next) = rw is (ran-left s nodes (ran-accepted s nodes e)) in
+    let done : NoPairLeft (familyOf (next .family)) (next .k) (isLive (next .live)) = rw is (rw is at (run-ends s size nodes a)) in
+    let left : ran s nodes .left ≡ nodesLeft (next .live) (nodesOf next) = rw is (ran-left s nodes a) in
     record { answer = quiet-answer next other again marks done ∙ rw left; nodes-are = quiet-nodes next other again marks done }
 
 pub own-claim : OwnClaim
+unfolding readOut
 own-claim object s nodes marks size live moves =
     let held = heldAfter s nodes moves in
     let o : OwnHeld object held = own-moves object s nodes moves (record { marks = marks; size = size; live = live }) in

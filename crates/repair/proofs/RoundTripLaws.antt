@@ -25,7 +25,7 @@ use Rattle.boxes.proofs.Answers.{box-none}
 use Rattle.boxes.proofs.Laws.{accepted-box, box-accepted, FieldsOf, fields-of, box-of-fields, length-boxOf, length-withBodies, bodies-there, bodies-same, bodies-other, list-in}
 use Rattle.repair.specs.declared.Session.{Session}
 use Rattle.repair.specs.Session.{sessionOf, nodesOf, noStart, nodesChecks}
-use Rattle.repair.specs.Boxed.{sessionIn, checkedBox, readChecks, nodesRead, listed, writtenLength, writeChecks, written, outWritten}
+use Rattle.repair.specs.Boxed.{sessionIn, checkedBox, readChecks, readBox, nodesRead, listed, writtenLength, writeChecks, written, outWritten}
 use Rattle.repair.specs.Claims.{boxWritten, WrittenAgain}
 use Rattle.repair.proofs.StartLaws.{known, no-start-marks}
 
@@ -129,9 +129,10 @@ module _ (s : Session) (nodes list out : List ℕ) (e : firstMet (writeChecks s 
         none-append (boxChecks box) _ (box-none box box-passes)
         ∙ rw (fields .length-is, fields .k-is, fields .family-is, eq-eqb (length other) (nodesOf s * s .len) h)
 
-    -- it reads into a buffer of n × L bytes
-    pub box-reads : firstMet (readChecks (boxWritten s nodes list out) other) ≡ 0
-    box-reads = ap (λ (x : List ℕ). firstMet (readChecks x other)) box-written ∙ reads
+    -- it reads into a buffer of n × L bytes, to the session that it checks to
+    pub box-reads : readBox (boxWritten s nodes list out) other ≡ checkedBox (boxWritten s nodes list out)
+    unfolding readBox checkedBox
+    box-reads = rw (box-written, reads, box-passes)
 
     -- the bodies of the buffer that was written
     box-read : nodesRead (boxWritten s nodes list out) other ≡ withBodies (s .len) other (listed s list) (bodiesOf (s .len) nodes (listed s list))

@@ -32,12 +32,13 @@ use Rattle.repair.specs.declared.ReadOut.{ReadOut}
 use Rattle.repair.specs.Session.{sessionOf, started, nodesOf, nodesChecks}
 use Rattle.repair.specs.Boxed.{checkedBox, readChecks, readBox, nodesRead, listed, writeChecks, written}
 use Rattle.repair.specs.ReadOut.{missingIn, readOut}
-use Rattle.repair.specs.Repairs.{runChecks, ran, nodesRan}
+use Rattle.repair.specs.Repairs.{ran, nodesRan}
 use Rattle.repair.specs.Calls.{Move, run, sessionAfter, nodesAfter, Call, sessionAfterAll, liveAfter, Held, heldAfter}
 use Rattle.repair.specs.LeftOver.{isIn, lastSession, LeftOver}
 use Rattle.repair.specs.Claims.{boxWritten}
 use Rattle.repair.specs.RepairClaims.{LiveAreOwn, OwnClaims}
 use Rattle.repair.specs.WholeWay.{Fits, BodiesAreOwn, OwnBoxClaim, MissingOpenClaim, LowestOpen, OutWhereOpen, OutAfterRunClaim, Way, startOf, nodesEncoded, boxAway, heldAt, OnTheWay, WholeWayClaim}
+use Rattle.repair.proofs.Accepted.{start-accepted, read-accepted, write-accepted, run-accepted}
 use Rattle.repair.proofs.StartLaws.{known, nodes-0}
 use Rattle.repair.proofs.ReadOutLaws.{by-block, accepted-out, read}
 use Rattle.repair.proofs.ListedLaws.{first-zero, place-there}
@@ -47,7 +48,7 @@ use Rattle.repair.proofs.RepairsProved.{run-ends, own-claim}
 use Rattle.repair.proofs.LeftOverProved.{session-is, demand-3}
 use Rattle.repair.proofs.CallLaws.{FromStart, from-start}
 use Rattle.repair.proofs.OwnLaws.{ran-sized}
-use Rattle.repair.proofs.FitsLaws.{fits-claim, start-accepted, read-accepted, write-accepted, run-accepted, session-started, session-read, read-fits, fits-call}
+use Rattle.repair.proofs.FitsLaws.{fits-claim, session-started, session-read, read-fits, fits-call}
 
 not-true : (b : Bool) → not b ≡ true → b ≡ false
 not-true true h = absurd (false≢true h)
@@ -80,7 +81,7 @@ own-write object s nodes list out own h =
     let m : i < length (listed s list) = omega (arith, d .held-is) in
     let n = outside-none (nodesOf s) (listed s list) (a .good .outside) i m in
     rw (d .names-is, d .family-is, d .k-is, d .length-is)
-    (rw is at (written-body-claim s nodes list out e i m)
+    (rw is at (written-body-claim s nodes list out h i m)
     ∙ own (getD (listed s list) i 0) (record { first = n .0; last = n .1 }) (live-at (s .live) (listed s list) i (a .live) m)))
 
 own-read : (object bytes nodes : List ℕ) → BodiesAreOwn object bytes → readBox bytes nodes .refusal ≡ 0
@@ -94,7 +95,7 @@ own-read object bytes nodes own h =
     let in-list = live-of-list (namesIn bytes) j (omega (arith, n .last, few-nodes)) (outside-more (nodesIn bytes) 255 (namesIn bytes) few-nodes (a .nodes)) in
     let p : placeIn (namesIn bytes) j < length (namesIn bytes) = ltb-true _ _ (sym in-list ∙ l) in
     let q : placeIn (namesIn bytes) j < heldIn bytes = omega (arith, p, a .names-size) in
-    let own-here = read-body-claim bytes nodes e (placeIn (namesIn bytes) j) q ∙ own (placeIn (namesIn bytes) j) q in
+    let own-here = read-body-claim bytes nodes h (placeIn (namesIn bytes) j) q ∙ own (placeIn (namesIn bytes) j) q in
     rw (place-there (namesIn bytes) j p) at own-here)
 
 pub own-box-claim : OwnBoxClaim
@@ -129,7 +130,7 @@ module _ (family k L : ℕ) (list : List ℕ) (h : started family k L list .refu
   pub ran-is : ran (lastSession family k L list calls) nodes .session ≡ sessionOf family k L now
   ran-is = sym last-is ∙ session-is family k L list start all
 
-  ends : (s : Session) (live : List ℕ) → s ≡ sessionOf family k L live → firstMet (runChecks s nodes) ≡ 0 → NoPairLeft f k (isLive (ran s nodes .session .live))
+  ends : (s : Session) (live : List ℕ) → s ≡ sessionOf family k L live → ran s nodes .refusal ≡ 0 → NoPairLeft f k (isLive (ran s nodes .session .live))
   ends s live is a = rw is (run-ends (sessionOf family k L live) (length-setLive noneLive live) nodes (rw is at a))
 
   -- so no pair is left after them, and demand 3 says which nodes are missing
@@ -142,7 +143,7 @@ module _ (family k L : ℕ) (list : List ℕ) (h : started family k L list .refu
 
     pub missing-open : (j : ℕ) → IsNode f k j → (isLive (ran (lastSession family k L list calls) nodes .session .live) j ≡ false) ↔ Open f k M list j
     missing-open j n =
-        let quiet = ends (lastSession family k L list calls) (liveAfter family k L list calls) (session-is family k L list start calls) (run-accepted (lastSession family k L list calls) nodes e) in
+        let quiet = ends (lastSession family k L list calls) (liveAfter family k L list calls) (session-is family k L list start calls) e in
         let both = over .missing-open (λ j a b nj na nb mj la lb r. quiet j a b nj na nb (marks j nj ∙ mj) (marks a na ∙ la) (marks b nb ∙ lb) r) j n in
         ((λ m. both .0 (sym (marks j n) ∙ m)), (λ o. marks j n ∙ both .1 o))
 
@@ -279,13 +280,16 @@ module _ (bytes nodes : List ℕ) (e : firstMet (readChecks bytes nodes) ≡ 0) 
   abbrev from-box : Started
   from-box = started (familyIn bytes) (kIn bytes) (lengthIn bytes) (namesIn bytes)
 
-  starts : from-box .refusal ≡ 0
+  checks : checkedBox bytes .refusal ≡ 0
   unfolding checkedBox
-  starts = ap (λ (r : Started). r .refusal) (sym (box-start-claim bytes passes)) ∙ rw passes
+  checks = rw passes
+
+  starts : from-box .refusal ≡ 0
+  starts = ap (λ (r : Started). r .refusal) (sym (box-start-claim bytes checks)) ∙ checks
 
   session-from : readBox bytes nodes .session ≡ from-box .session
   unfolding checkedBox
-  session-from = session-read bytes nodes e ∙ rw passes at (ap (λ (r : Started). r .session) (box-start-claim bytes passes))
+  session-from = session-read bytes nodes e ∙ rw passes at (ap (λ (r : Started). r .session) (box-start-claim bytes checks))
 
   module _ (moves : List Move) where
     abbrev held : Held

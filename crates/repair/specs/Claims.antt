@@ -10,19 +10,18 @@ use Rattle.blocks.specs.Blocks.{blockOf}
 use Rattle.checks.specs.Checks.{firstMet}
 use Rattle.checks.specs.Parameters.{parameterChecks}
 use Rattle.lists.specs.Lists.{isLive, placeIn}
-use Rattle.boxes.specs.Box.{familyIn, kIn, lengthIn, heldIn, zerosIn, namesIn, boxLength, boxChecks, bodyChecks, bodyOf}
+use Rattle.boxes.specs.Box.{familyIn, kIn, lengthIn, heldIn, zerosIn, namesIn, boxLength, bodyChecks, bodyOf}
 use Rattle.boxes.specs.Bodies.{boxOf}
 use Rattle.repair.specs.declared.Session.{Session}
-use Rattle.repair.specs.Session.{sessionOf, refusedStart, startChecks, started, nodesOf, noStart}
-use Rattle.repair.specs.Boxed.{sessionIn, checkedBox, readChecks, readBox, nodesRead, listed, writtenLength, writeChecks, written, outWritten}
+use Rattle.repair.specs.Session.{sessionOf, refusedStart, started, nodesOf, noStart}
+use Rattle.repair.specs.Boxed.{sessionIn, checkedBox, readBox, nodesRead, listed, writtenLength, written, outWritten}
 
 -- ---- start
 
 -- some accepted start gives exactly this session
 pub record FromStart (s : Session) : Type 0 where
   pub list : List ℕ
-  pub accepted : firstMet (startChecks (s .family) (s .k) (s .len) list) ≡ 0
-  pub gives : sessionOf (s .family) (s .k) (s .len) list ≡ s
+  pub gives : started (s .family) (s .k) (s .len) list ≡ record { refusal = 0; session = s }
 
 -- 13 is due exactly where no start gives the session
 abbrev pub NoStartClaim : Type 0
@@ -30,8 +29,8 @@ NoStartClaim = (s : Session) → length (s .live) ≡ 256 → (noStart s ≡ fal
 
 -- mark j of an accepted start's session is live exactly when j is in the list
 abbrev pub StartMarksClaim : Type 0
-StartMarksClaim = (family k L : ℕ) (list : List ℕ) → firstMet (startChecks family k L list) ≡ 0
-    → (j : ℕ) → j < 256 → isLive (sessionOf family k L list .live) j ≡ ltb (placeIn list j) (length list)
+StartMarksClaim = (family k L : ℕ) (list : List ℕ) → started family k L list .refusal ≡ 0
+    → (j : ℕ) → j < 256 → isLive (started family k L list .session .live) j ≡ ltb (placeIn list j) (length list)
 
 -- ---- write, then read
 
@@ -48,18 +47,18 @@ pub record WriteReadClaims (s : Session) (nodes list out : List ℕ) : Type 0 wh
   pub rest : outWritten s nodes list out ≡ boxWritten s nodes list out ++ drop (length (boxWritten s nodes list out)) out
   -- the box checks to the session of the listed nodes, and reads, into whatever buffer, to the same bodies
   pub checks : checkedBox (boxWritten s nodes list out) ≡ record { refusal = 0; session = sessionOf (s .family) (s .k) (s .len) (listed s list) }
-  pub reads : (other : List ℕ) → length other ≡ nodesOf s * s .len → firstMet (readChecks (boxWritten s nodes list out) other) ≡ 0
+  pub reads : (other : List ℕ) → length other ≡ nodesOf s * s .len → readBox (boxWritten s nodes list out) other ≡ checkedBox (boxWritten s nodes list out)
   pub bodies : (other : List ℕ) → length other ≡ nodesOf s * s .len → (i : ℕ) → i < length (listed s list)
       → blockOf (s .len) (nodesRead (boxWritten s nodes list out) other) (getD (listed s list) i 0) ≡ blockOf (s .len) nodes (getD (listed s list) i 0)
 
 abbrev pub WriteReadClaim : Type 0
-WriteReadClaim = (s : Session) (nodes list out : List ℕ) → firstMet (writeChecks s nodes list out) ≡ 0 → WriteReadClaims s nodes list out
+WriteReadClaim = (s : Session) (nodes list out : List ℕ) → written s nodes list out .refusal ≡ 0 → WriteReadClaims s nodes list out
 
 -- ---- read, then write
 
 -- places of nodes that are not in the box keep their bytes
 abbrev pub ReadKeepsClaim : Type 0
-ReadKeepsClaim = (bytes nodes : List ℕ) → firstMet (readChecks bytes nodes) ≡ 0
+ReadKeepsClaim = (bytes nodes : List ℕ) → readBox bytes nodes .refusal ≡ 0
     → (j : ℕ) → 1 ≤ j → ((i : ℕ) → i < length (namesIn bytes) → getD (namesIn bytes) i 0 ≡ j → ⊥)
     → blockOf (lengthIn bytes) (nodesRead bytes nodes) j ≡ blockOf (lengthIn bytes) nodes j
 
@@ -71,26 +70,26 @@ pub record WrittenAgain (bytes nodes list out : List ℕ) : Type 0 where
 -- an accepted box, read and written again before any repair, has the same bytes, by an empty list and by its own. That byte 2, the
 -- low one of L, is a byte is all that is asked of the list of numbers
 abbrev pub ReadWriteClaim : Type 0
-ReadWriteClaim = (bytes nodes out : List ℕ) → getD bytes 2 0 < 256 → firstMet (readChecks bytes nodes) ≡ 0 → length bytes ≤ length out
+ReadWriteClaim = (bytes nodes out : List ℕ) → getD bytes 2 0 < 256 → readBox bytes nodes .refusal ≡ 0 → length bytes ≤ length out
     → WrittenAgain bytes nodes [] out × WrittenAgain bytes nodes (namesIn bytes) out
 
 -- ---- the body of a node
 
 -- the body of a named node is what a read puts in its place
 abbrev pub ReadBodyClaim : Type 0
-ReadBodyClaim = (bytes nodes : List ℕ) → firstMet (readChecks bytes nodes) ≡ 0 → (i : ℕ) → i < heldIn bytes
+ReadBodyClaim = (bytes nodes : List ℕ) → readBox bytes nodes .refusal ≡ 0 → (i : ℕ) → i < heldIn bytes
     → blockOf (lengthIn bytes) (nodesRead bytes nodes) (getD (namesIn bytes) i 0) ≡ bodyOf bytes (getD (namesIn bytes) i 0)
 
 -- in a written box it is that node's block
 abbrev pub WrittenBodyClaim : Type 0
-WrittenBodyClaim = (s : Session) (nodes list out : List ℕ) → firstMet (writeChecks s nodes list out) ≡ 0 → (i : ℕ) → i < length (listed s list)
+WrittenBodyClaim = (s : Session) (nodes list out : List ℕ) → written s nodes list out .refusal ≡ 0 → (i : ℕ) → i < length (listed s list)
     → bodyOf (boxWritten s nodes list out) (getD (listed s list) i 0) ≡ blockOf (s .len) nodes (getD (listed s list) i 0)
 
 -- ---- a box and its session
 
 -- an accepted box gives the session that the start with its family, k, L and node numbers gives
 abbrev pub BoxStartClaim : Type 0
-BoxStartClaim = (bytes : List ℕ) → firstMet (boxChecks bytes) ≡ 0 → checkedBox bytes ≡ started (familyIn bytes) (kIn bytes) (lengthIn bytes) (namesIn bytes)
+BoxStartClaim = (bytes : List ℕ) → checkedBox bytes .refusal ≡ 0 → checkedBox bytes ≡ started (familyIn bytes) (kIn bytes) (lengthIn bytes) (namesIn bytes)
 
 -- 7 is what check, read and a body give
 pub record Cut (bytes : List ℕ) : Type 0 where

@@ -6,15 +6,14 @@ use Prim.Native.Nat.{ℕ, _*_}
 use lib.ListN.{length}
 use Rattle.families.specs.Families.{familyOf, IsNode, columnOf}
 use Rattle.blocks.specs.Blocks.{blockOf}
-use Rattle.checks.specs.Checks.{firstMet}
 use Rattle.encoding.specs.Matrix.{nodeBlock}
 use Rattle.lists.specs.Lists.{isLive}
 use Rattle.planning.specs.Pairs.{NoPairLeft}
 use Rattle.planning.specs.Plan.{Step}
 use Rattle.repair.specs.declared.Session.{Session}
 use Rattle.repair.specs.Session.{nodesOf, noStart}
-use Rattle.repair.specs.Repairs.{planIn, runChecks, ran, nodesRan}
-use Rattle.repair.specs.ReadOut.{readOutChecks, objectOut}
+use Rattle.repair.specs.Repairs.{planIn, ran, nodesRan}
+use Rattle.repair.specs.ReadOut.{readOut, objectOut}
 use Rattle.repair.specs.Calls.{Move, step, sessionAfter, heldAfter}
 
 -- ---- marks for 0 and above n are never live
@@ -32,23 +31,23 @@ asMove made = step (made .node) (made .smaller) (made .larger)
 
 -- an accepted run is the plan's steps made one after the other
 abbrev pub RunIsStepsClaim : Type 0
-RunIsStepsClaim = (s : Session) → length (s .live) ≡ 256 → (nodes : List ℕ) → firstMet (runChecks s nodes) ≡ 0
+RunIsStepsClaim = (s : Session) → length (s .live) ≡ 256 → (nodes : List ℕ) → ran s nodes .refusal ≡ 0
     → heldAfter s nodes (map asMove (planIn s)) ≡ record { session = ran s nodes .session; nodes = nodesRan s nodes }
 
 -- after an accepted run no missing node has a related pair with both nodes live
 abbrev pub RunEndsClaim : Type 0
-RunEndsClaim = (s : Session) → length (s .live) ≡ 256 → (nodes : List ℕ) → firstMet (runChecks s nodes) ≡ 0
+RunEndsClaim = (s : Session) → length (s .live) ≡ 256 → (nodes : List ℕ) → ran s nodes .refusal ≡ 0
     → NoPairLeft (familyOf (s .family)) (s .k) (isLive (ran s nodes .session .live))
 
 -- places of nodes left keep their bytes
 abbrev pub PlacesKeptClaim : Type 0
-PlacesKeptClaim = (s : Session) → length (s .live) ≡ 256 → (nodes : List ℕ) → firstMet (runChecks s nodes) ≡ 0
+PlacesKeptClaim = (s : Session) → length (s .live) ≡ 256 → (nodes : List ℕ) → ran s nodes .refusal ≡ 0
     → (j : ℕ) → IsNode (familyOf (s .family)) (s .k) j → isLive (ran s nodes .session .live) j ≡ false
     → blockOf (s .len) (nodesRan s nodes) j ≡ blockOf (s .len) nodes j
 
 -- the blocks of nodes that were live before it stay as they were
 abbrev pub LiveKeptClaim : Type 0
-LiveKeptClaim = (s : Session) → length (s .live) ≡ 256 → (nodes : List ℕ) → firstMet (runChecks s nodes) ≡ 0
+LiveKeptClaim = (s : Session) → length (s .live) ≡ 256 → (nodes : List ℕ) → ran s nodes .refusal ≡ 0
     → (j : ℕ) → IsNode (familyOf (s .family)) (s .k) j → isLive (s .live) j ≡ true
     → blockOf (s .len) (nodesRan s nodes) j ≡ blockOf (s .len) nodes j
 
@@ -58,7 +57,7 @@ pub record RunAgain (s : Session) (nodes other : List ℕ) : Type 0 where
   pub nodes-are : nodesRan (ran s nodes .session) other ≡ other
 
 abbrev pub RunAgainClaim : Type 0
-RunAgainClaim = (s : Session) → length (s .live) ≡ 256 → (nodes : List ℕ) → firstMet (runChecks s nodes) ≡ 0
+RunAgainClaim = (s : Session) → length (s .live) ≡ 256 → (nodes : List ℕ) → ran s nodes .refusal ≡ 0
     → (other : List ℕ) → length other ≡ nodesOf s * s .len → RunAgain s nodes other
 
 -- ---- the object's own blocks (demand 2)
@@ -73,7 +72,7 @@ LiveAreOwn object s nodes =
 -- where that is accepted, is the object
 pub record OwnClaims (object : List ℕ) (s : Session) (nodes : List ℕ) (moves : List Move) : Type 0 where
   pub live : LiveAreOwn object (heldAfter s nodes moves .session) (heldAfter s nodes moves .nodes)
-  pub out : (result : List ℕ) → firstMet (readOutChecks (heldAfter s nodes moves .session) (heldAfter s nodes moves .nodes) result) ≡ 0
+  pub out : (result : List ℕ) → readOut (heldAfter s nodes moves .session) (heldAfter s nodes moves .nodes) result .refusal ≡ 0
       → objectOut (heldAfter s nodes moves .session) (heldAfter s nodes moves .nodes) result ≡ object
 
 abbrev pub OwnClaim : Type 0
