@@ -1,134 +1,162 @@
--- The lettered examples hold, by computation.
+-- The lettered examples hold: what a row says of every L and every buffer follows by laws from what is computed of it.
 -- Assumes nothing.
-use mathlib.Core.Path.{_≡_, refl, sym, ap, _∙_}
-use mathlib.Core.Bool.{Bool, true, false, cond, not, _||_}
-use mathlib.Core.List.{List, [], _∷_, _++_, map}
+use mathlib.Core.Path.{_≡_, refl, sym, ap, _∙_, subst}
+use mathlib.Core.Bool.{false}
+use mathlib.Core.List.{List, [], _∷_, append-nil}
 use Prim.Native.Nat.{ℕ, _*_, _/_, _≤_}
 use native.Mathlib.Omega.{arith}
-use lib.ListN.{length, drop}
-use Rattle.families.specs.Families.{familyOf, nodeCount, columnOf, smallerAt, largerAt, areRelated, firstFrom}
-use Rattle.blocks.specs.Blocks.{xorBytes}
-use Rattle.checks.specs.Checks.{Check, _gives_, firstMet}
-use Rattle.checks.specs.Parameters.{parameterChecks}
+use borrow.Author.Tests.{le-ltb}
+use lib.Dec.{ltb}
+use lib.ListN.{length, getD}
+use lib.Seq.{ext-getD}
+use Rattle.families.specs.Families.{familyOf, nodeCount, columnOf, smallerAt, largerAt, areRelated, firstFrom, listFrom}
+use Rattle.families.proofs.TableLaws.{length-listFrom, getD-listFrom}
+use Rattle.blocks.specs.Blocks.{xorBytes, blockOf, withBlock}
+use Rattle.checks.specs.Checks.{firstMet}
+use Rattle.checks.specs.Parameters.{mostL, parameterChecks}
+use Rattle.checks.proofs.Laws.{outside-no}
 use Rattle.encoding.specs.Matrix.{dataBlock, nodeBlock, nodeBlocks, nodesBuffer}
 use Rattle.encoding.specs.Encode.{encodeChecks, encodeAnswer, encoded}
-use Rattle.lists.specs.Lists.{someOutside, rises, isLive, setLive, someMissing, someLive, liveOutside, liveFrom, liveNodes}
-use Rattle.boxes.specs.Box.{boxChecks}
+use Rattle.lists.specs.Lists.{someOutside, rises, placeIn, setLive, someMissing, someLive, liveOutside, liveFrom}
 use Rattle.planning.specs.Pairs.{largerNode, smallerNode}
-use Rattle.planning.specs.Plan.{isRepaired, stepsFrom, roundsFrom, planOf, repairedNodes, marksAfter, stepBytes, lastRound, countFrom, nodesLeft}
+use Rattle.planning.specs.Plan.{isRepaired, stepsFrom, roundsFrom, planOf, marksAfter, stepBytes, lastRound, countFrom, nodesLeft}
+use Rattle.planning.specs.Made.{stepsIn}
+use Rattle.planning.proofs.RoundLaws.{length-bytes}
+use Rattle.planning.proofs.CarryLaws.{steps-back}
+use Rattle.boxes.specs.Box.{boxChecks, bodyChecks, bodyOf}
+use Rattle.boxes.specs.Bodies.{bodiesOf, boxOf, withBodies}
 use Rattle.repair.specs.declared.Session.{Session}
-use Rattle.repair.specs.declared.Started.{Started}
-use Rattle.repair.specs.declared.Repairs.{Repairs}
-use Rattle.repair.specs.Session.{started, startChecks, nodesOf, noStart}
-use Rattle.repair.specs.Boxed.{checkedBox}
-use Rattle.repair.specs.Step.{withLive}
-use Rattle.repair.specs.Repairs.{planIn, repairsOf, runChecks, ran}
+use Rattle.repair.specs.Session.{sessionOf, started, startChecks, nodesOf, noStart, nodesChecks}
+use Rattle.repair.specs.Boxed.{checkedBox, readChecks, readBox, nodesRead, writeChecks, written, outWritten}
+use Rattle.repair.specs.Step.{stepChecks, stepped, nodesStepped}
+use Rattle.repair.specs.Repairs.{planIn, runChecks}
 use Rattle.repair.proofs.StartLaws.{nodes-0}
-use Rattle.repair.proofs.StepLaws.{step-rest, step-refused}
 use Rattle.repair.proofs.RepairsLaws.{plan-made, run-made}
-use Rattle.examples.specs.Examples.{HasPlan, Holds, BoxSteps, sampleBox, Examples}
+use Rattle.listing.specs.Text.{digitCount, decimal, field, firstLine, stepLine, stepLines, lastLine}
+use Rattle.listing.specs.Listing.{answerOf, listingIn, listingOf}
+use Rattle.examples.specs.Examples.{Row, Encodes, Plans, BoxPlans, BoxSteps, BoxReads, BoxHolds, BoxLacks, BoxRewrites, Lists, Holds, HasPlan, StepGives, Reads, Rewrites, Every, accepted, othersFrom, allBut, table, Examples}
 
--- what is computed of a session and its plan
-record Figures : Type 0 where
-  refused : Bool
-  bytes : List ℕ
-  size : ℕ
-  count : ℕ
-  last : ℕ
-  missing : List ℕ
-  number : ℕ
+-- ---- a plan
 
-abbrev figures : Session → Figures
-figures s =
-    record {
-      refused = noStart s;
-      bytes = stepBytes (planIn s);
-      size = 4 * length (planIn s);
-      count = length (planIn s);
-      last = lastRound (planIn s);
-      missing = liveNodes (map not (marksAfter (s .live) (planIn s))) (nodesOf s);
-      number = nodesLeft (marksAfter (s .live) (planIn s)) (nodesOf s);
-    }
-
-abbrev expected : List ℕ → ℕ → List ℕ → Figures
-expected steps rounds left =
-    record { refused = false; bytes = steps; size = length steps; count = length steps / 4; last = rounds; missing = left; number = length left }
+-- what is computed of a session and of a row's steps, rounds and nodes left; L has no part in it
+abbrev HasFigures : Session → List ℕ → ℕ → List ℕ → Type 0
+HasFigures s steps rounds left =
+    (stepBytes (planIn s) ≡ steps)
+    × (lastRound (stepsIn steps (length steps / 4)) ≡ rounds)
+    × (marksAfter (s .live) (stepsIn steps (length steps / 4)) ≡ allBut left s .live)
+    × (nodesLeft (allBut left s .live) (nodesOf s) ≡ length left)
 
 -- plan and run give what is computed
-has-plan : (start : Started) (steps : List ℕ) (rounds : ℕ) (left : List ℕ) → start .refusal ≡ 0 → figures (start .session) ≡ expected steps rounds left → HasPlan start steps rounds left
+has-plan : (s : Session) (steps : List ℕ) (rounds : ℕ) (left : List ℕ) → noStart s ≡ false → HasFigures s steps rounds left → HasPlan s steps rounds left
 unfolding runChecks
-has-plan start steps rounds left e w = (
-  e,
-  (λ out h.
-      let r = plan-made s out start-is (omega (arith, size-is)) in
-      (sym (r .answer-is) ∙ rw (count-is, last-is, number-is), sym (r .out-is) ∙ rw (bytes-are, size-is))),
-  (λ nodes h.
-      let a = run-made s nodes (nodes-0 s (length nodes) start-is h) .answer-is in (
-        ap (λ (x : Repairs). x .refusal) (sym a),
-        ap (λ (x : Repairs). x .steps) (sym a) ∙ count-is,
-        ap (λ (x : Repairs). x .rounds) (sym a) ∙ last-is,
-        ap (λ (x : Repairs). x .left) (sym a) ∙ number-is,
-        ap (λ (x : Repairs). liveNodes (map not (x .session .live)) (nodesOf s)) (sym a) ∙ ap (λ (x : Figures). x .missing) w,
-      )),
-)
+has-plan s steps rounds left start (bytes-are, last-is, marks-are, number-is) =
+    record {
+      plan-gives = λ out h. sym (plan-made s out start (omega (arith, size-is)) .answer-is) ∙ rw (plan-is, count-is, last-is, marks-are, number-is);
+      plan-writes = λ out h. sym (plan-made s out start (omega (arith, size-is)) .out-is) ∙ rw (bytes-are, size-is);
+      run-gives = λ nodes h. sym (run-made s nodes (nodes-0 s (length nodes) start h) .answer-is) ∙ rw (plan-is, count-is, last-is, marks-are, number-is);
+      run-leaves = λ nodes h. sym (run-made s nodes (nodes-0 s (length nodes) start h) .nodes-are) ∙ rw plan-is;
+    }
   where
-    s : Session
-    s = start .session
-
-    start-is : noStart s ≡ false
-    start-is = ap (λ (x : Figures). x .refused) w
-
-    bytes-are : stepBytes (planIn s) ≡ steps
-    bytes-are = ap (λ (x : Figures). x .bytes) w
-
     size-is : 4 * length (planIn s) ≡ length steps
-    size-is = ap (λ (x : Figures). x .size) w
+    size-is = sym (length-bytes (planIn s)) ∙ ap length bytes-are
 
-    count-is : length (planIn s) ≡ length steps / 4
-    count-is = ap (λ (x : Figures). x .count) w
+    plan-is : planIn s ≡ stepsIn steps (length steps / 4)
+    plan-is = sym (steps-back (planIn s) []) ∙ rw (append-nil, bytes-are, count)
+      where
+        count : length (planIn s) ≡ length steps / 4
+        count = omega (arith, size-is)
 
-    last-is : lastRound (planIn s) ≡ rounds
-    last-is = ap (λ (x : Figures). x .last) w
+    count-is : length (stepsIn steps (length steps / 4)) ≡ length steps / 4
+    count-is = omega (arith, ap length plan-is, size-is)
 
-    number-is : nodesLeft (marksAfter (s .live) (planIn s)) (nodesOf s) ≡ length left
-    number-is = ap (λ (x : Figures). x .number) w
+-- ---- the start at each L
 
--- a step's number, where its checks after 13 and 6 give it
-refused : (box : List ℕ) (j a b number : ℕ) → checkedBox box .refusal ≡ 0 → noStart (checkedBox box .session) ≡ false → (number ≡ 0 → ⊥)
-    → firstMet (
-    (someOutside (nodesOf (checkedBox box .session)) (j ∷ a ∷ b ∷ []) gives 4)
-    ∷ (not (areRelated (familyOf (checkedBox box .session .family)) (checkedBox box .session .k) a b j) gives 10)
-    ∷ (isLive (checkedBox box .session .live) j gives 11)
-    ∷ (someMissing (checkedBox box .session .live) (a ∷ b ∷ []) gives 12)
-    ∷ []) ≡ number
-    → Holds (BoxSteps box j a b number)
-refused box j a b number e start some gives-it = (
-  e,
-  (λ nodes h.
-      let s = checkedBox box .session in
-      let r = step-refused s nodes j a b number (sym (step-rest s nodes j a b (nodes-0 s (length nodes) start h) ∙ gives-it)) some in
-      (sym (r .answer-is), sym (r .nodes-are))),
-)
+-- at each L that is accepted, 1 to 3 are as at L 1
+same-checks : (family k L : ℕ) → 1 ≤ L → L ≤ mostL → parameterChecks family k L ≡ parameterChecks family k 1
+unfolding parameterChecks
+same-checks family k L h g = rw (outside-no 1 mostL L h g, outside-no 1 mostL 1 (omega arith) (omega arith))
+
+-- ---- every buffer
+
+-- what holds of n bytes, whatever they are, holds of every buffer of n bytes
+each : (n : ℕ) (P : List ℕ → Type 0) → ((byte : ℕ → ℕ) → P (listFrom byte 0 n)) → (nodes : List ℕ) → length nodes ≡ n → P nodes
+each n P h nodes e = subst P all (h byte)
+  where
+    byte : ℕ → ℕ
+    byte i = getD nodes i 0
+
+    all : listFrom byte 0 n ≡ nodes
+    all = ext-getD 0 (listFrom byte 0 n) nodes (length-listFrom byte 0 n ∙ sym e) (λ i l. getD-listFrom byte n i 0 (omega (arith, length-listFrom byte 0 n)))
+
+-- ---- the rows
+
+-- what is computed of a row
+abbrev Computed : Row → Type 0
+Computed (Encodes family k L object nodes) =
+    (firstMet (encodeChecks family k L (length object) (length nodes)) ≡ 0) × (nodesBuffer (familyOf family) k L object ≡ nodes)
+Computed (Plans family k list steps rounds left) =
+    (firstMet (startChecks family k 1 list) ≡ 0) × (noStart (sessionOf family k 1 list) ≡ false) × HasFigures (sessionOf family k 1 list) steps rounds left
+Computed (BoxPlans box s steps rounds left) = (checkedBox box ≡ accepted s) × (noStart s ≡ false) × HasFigures s steps rounds left
+Computed (BoxSteps box j a b number) =
+    (checkedBox box .refusal ≡ 0)
+    × ((byte : ℕ → ℕ) → StepGives (checkedBox box .session) j a b number (listFrom byte 0 (nodesOf (checkedBox box .session) * checkedBox box .session .len)))
+Computed (BoxReads box s after) = (byte : ℕ → ℕ) → Reads box s after (listFrom byte 0 (nodesOf s * s .len))
+Computed (BoxHolds box j start body) = Holds (BoxHolds box j start body)
+Computed (BoxLacks box j number) = Holds (BoxLacks box j number)
+Computed (BoxRewrites box s list) =
+    (byte : ℕ → ℕ) (out : List ℕ) → ltb (length out) (length box) ≡ false → Rewrites box s list (listFrom byte 0 (nodesOf s * s .len)) out
+Computed (Lists box text) = Holds (Lists box text)
+
+-- and what follows
+holds : (row : Row) → Computed row → Holds row
+unfolding encodeAnswer encoded started startChecks noStart
+holds (Encodes family k L object nodes) (a, is) = λ buffer e. (rw (e, a), rw (e, a, is))
+holds (Plans family k list steps rounds left) (a, start, figures) = λ L h g.
+    let same = same-checks family k L h g in
+    (rw (same, a), has-plan (sessionOf family k L list) steps rounds left (rw same start) figures)
+holds (BoxPlans box s steps rounds left) (a, start, figures) = (a, has-plan s steps rounds left start figures)
+holds (BoxSteps box j a b number) (e, c) =
+    (e, each (nodesOf (checkedBox box .session) * checkedBox box .session .len) (StepGives (checkedBox box .session) j a b number) c)
+holds (BoxReads box s after) c = each (nodesOf s * s .len) (Reads box s after) c
+holds (BoxHolds box j start body) c = c
+holds (BoxLacks box j number) c = c
+holds (BoxRewrites box s list) c = λ nodes e out h.
+    each (nodesOf s * s .len) (λ nodes. Rewrites box s list nodes out) (λ byte. c byte out (le-ltb (length out) (length box) h)) nodes e
+holds (Lists box text) c = c
+
+all-hold : (rows : List Row) → Every Computed rows → Every Holds rows
+all-hold [] c = tt
+all-hold (row ∷ rows) (c, cs) = (holds row c, all-hold rows cs)
+
+-- ---- the table
 
 -- one row, and the others
 infixr 5 _&_
 _&_ : {A B : Type 0} → A → B → A × B
 a & b = (a, b)
 
-pub examples : Examples
-unfolding encodeAnswer encoded encodeChecks parameterChecks firstMet nodesBuffer nodeBlocks nodeBlock dataBlock columnOf nodeCount xorBytes started startChecks checkedBox boxChecks someOutside rises setLive noStart liveOutside someLive planOf roundsFrom stepsFrom isRepaired smallerNode largerNode firstFrom areRelated smallerAt largerAt stepBytes lastRound nodesLeft countFrom liveFrom someMissing
-examples =
-    (λ buffer e. (rw e, rw e))
-    & has-plan _ _ _ _ refl refl
-    & has-plan _ _ _ _ refl refl
-    & has-plan _ _ _ _ refl refl
-    & has-plan _ _ _ _ refl refl
-    & has-plan _ _ _ _ refl refl
-    & has-plan _ _ _ _ refl refl
-    & has-plan _ _ _ _ refl refl
-    & refused sampleBox 6 1 7 12 refl refl (λ z. omega arith) refl
-    & refused sampleBox 4 1 5 11 refl refl (λ z. omega arith) refl
-    & refused sampleBox 1 4 7 10 refl refl (λ z. omega arith) refl
-    & has-plan _ _ _ _ refl refl
-    & has-plan _ _ _ _ refl refl
+computed : Every Computed table
+unfolding encodeChecks parameterChecks firstMet nodesBuffer nodeBlocks nodeBlock dataBlock columnOf nodeCount xorBytes startChecks checkedBox boxChecks someOutside rises setLive noStart liveOutside someLive planOf roundsFrom stepsFrom isRepaired smallerNode largerNode firstFrom areRelated smallerAt largerAt stepBytes lastRound nodesLeft countFrom liveFrom someMissing stepsIn othersFrom placeIn listFrom readBox nodesRead readChecks withBodies withBlock blockOf bodyChecks bodyOf writeChecks nodesChecks written outWritten boxOf bodiesOf stepChecks stepped nodesStepped listingOf answerOf listingIn firstLine stepLines stepLine lastLine field decimal digitCount
+computed =
+    (refl, refl)
+    & (refl, refl, (refl, refl, refl, refl))
+    & (refl, refl, (refl, refl, refl, refl))
+    & (refl, refl, (refl, refl, refl, refl))
+    & (refl, refl, (refl, refl, refl, refl))
+    & (refl, refl, (refl, refl, refl, refl))
+    & (refl, refl, (refl, refl, refl, refl))
+    & (refl, refl, (refl, refl, refl, refl))
+    & (refl, λ byte. (refl, refl))
+    & (refl, λ byte. (refl, refl))
+    & (refl, λ byte. (refl, refl))
+    & (refl, refl, (refl, refl, refl, refl))
+    & (refl, refl, (refl, refl, refl, refl))
+    & (λ byte. (refl, refl))
+    & (refl, refl, refl)
+    & (refl, refl)
+    & (λ byte out l. (rw l, rw l))
+    & refl
     & tt
+
+pub examples : Examples
+examples = all-hold table computed

@@ -1,65 +1,122 @@
--- The lettered examples of document 01, rows of one table under one statement.
+-- The lettered examples of document 01 and the box that it shows, rows of one table under one statement.
 use mathlib.Core.Path.{_≡_}
-use mathlib.Core.Bool.{not}
-use mathlib.Core.List.{List, [], _∷_, _++_, map}
-use Prim.Native.Nat.{ℕ, _*_, _/_, _≤_}
-use lib.ListN.{length, drop}
-use Rattle.lists.specs.Lists.{liveNodes}
+use mathlib.Core.Bool.{cond}
+use mathlib.Core.List.{List, [], _∷_, _++_}
+use Prim.Native.Nat.{ℕ, zero, suc, _-_, _*_, _/_, _≤_}
+use Prim.Native.String.{String}
+use lib.ListN.{length, getD, drop}
+use Rattle.checks.specs.Checks.{firstMet}
+use Rattle.checks.specs.Parameters.{mostL}
 use Rattle.encoding.specs.Encode.{encodeAnswer, encoded}
+use Rattle.planning.specs.Made.{nodesMade, stepsIn}
+use Rattle.boxes.specs.Box.{bodyChecks, bodyStart, bodyOf}
 use Rattle.repair.specs.declared.Session.{Session}
 use Rattle.repair.specs.declared.Started.{Started}
-use Rattle.repair.specs.Session.{started, nodesOf}
-use Rattle.repair.specs.Boxed.{checkedBox}
+use Rattle.repair.specs.Session.{sessionOf, started, nodesOf}
+use Rattle.repair.specs.Boxed.{checkedBox, readBox, nodesRead, written, outWritten}
 use Rattle.repair.specs.Step.{stepped, nodesStepped}
-use Rattle.repair.specs.Repairs.{planned, outPlanned, ran}
+use Rattle.repair.specs.Repairs.{planned, outPlanned, ran, nodesRan}
+use Rattle.repair.specs.LeftOver.{isIn}
+use Rattle.listing.specs.Text.{ascii}
+use Rattle.listing.specs.Listing.{listingOf}
+
+-- ---- what a row may say
 
 -- a worked example
 pub data Row : Type 0 where
   -- family, k, L, an object, and its nodes
   Encodes : ℕ → ℕ → ℕ → List ℕ → List ℕ → Row
-  -- family, k and the live nodes, L being 1; the plan's steps, four numbers each, its rounds, and the nodes left
+  -- family, k and the live nodes; at every L, the plan's steps, four numbers each, its rounds, and the nodes left
   Plans : ℕ → ℕ → List ℕ → List ℕ → ℕ → List ℕ → Row
-  -- a box; the plan of its session likewise
-  BoxPlans : List ℕ → List ℕ → ℕ → List ℕ → Row
+  -- a box and its session; the plan of this session likewise
+  BoxPlans : List ℕ → Session → List ℕ → ℕ → List ℕ → Row
   -- a box; a node and two others; the number that this step gives in the box's session
   BoxSteps : List ℕ → ℕ → ℕ → ℕ → ℕ → Row
+  -- a box and its session; the nodes buffer after reading, where `was j` is the byte j of it before, from 1: node j's, L being 1
+  BoxReads : List ℕ → Session → ((ℕ → ℕ) → List ℕ) → Row
+  -- a box; a node that it holds, the place in the box where its body begins, and the body
+  BoxHolds : List ℕ → ℕ → ℕ → List ℕ → Row
+  -- a box; a node, and the number that asking for its body gives
+  BoxLacks : List ℕ → ℕ → ℕ → Row
+  -- a box and its session; a list of nodes by which what was read is written again as the same box
+  BoxRewrites : List ℕ → Session → List ℕ → Row
+  -- a box, and what the lister prints of it
+  Lists : List ℕ → String → Row
 
--- the session of an accepted start or box has this plan: every destination that is long enough gets its steps and keeps what is
--- beyond them, and plan and run give its counts; these nodes are missing after the run
-abbrev pub HasPlan : Started → List ℕ → ℕ → List ℕ → Type 0
-HasPlan start steps rounds left =
-    (start .refusal ≡ 0)
-    × ((out : List ℕ) → length steps ≤ length out
-    → (planned (start .session) out
-    ≡ record { refusal = 0; steps = length steps / 4; rounds = rounds; left = length left; session = start .session })
-    × (outPlanned (start .session) out ≡ steps ++ drop (length steps) out))
-    × ((nodes : List ℕ) → length nodes ≡ nodesOf (start .session) * start .session .len
-    → (ran (start .session) nodes .refusal ≡ 0)
-    × (ran (start .session) nodes .steps ≡ length steps / 4)
-    × (ran (start .session) nodes .rounds ≡ rounds)
-    × (ran (start .session) nodes .left ≡ length left)
-    × (liveNodes (map not (ran (start .session) nodes .session .live)) (nodesOf (start .session)) ≡ left))
+-- what an accepted start or box gives: 0 and its session
+abbrev pub accepted : Session → Started
+accepted s = record { refusal = 0; session = s }
+
+-- those of the numbers j, j + 1, .., of which there are m, that are not in a list
+unfoldable pub othersFrom : List ℕ → ℕ → ℕ → List ℕ
+othersFrom list j zero = []
+othersFrom list j (suc m) = let later = othersFrom list (suc j) m in cond (isIn list j) later (j ∷ later)
+
+-- the session with every node live but those of a list
+abbrev pub allBut : List ℕ → Session → Session
+allBut list s = sessionOf (s .family) (s .k) (s .len) (othersFrom list 1 (nodesOf s))
+
+-- the plan of a session has these steps and rounds, and leaves these nodes
+pub record HasPlan (s : Session) (steps : List ℕ) (rounds : ℕ) (left : List ℕ) : Type 0 where
+  -- plan gives its counts; the session stays
+  pub plan-gives : (out : List ℕ) → length steps ≤ length out
+      → planned s out ≡ record { refusal = 0; steps = length steps / 4; rounds = rounds; left = length left; session = s }
+  -- the destination gets its steps and keeps what is beyond them
+  pub plan-writes : (out : List ℕ) → length steps ≤ length out → outPlanned s out ≡ steps ++ drop (length steps) out
+  -- run gives the same counts; in the next session every node is live but those left
+  pub run-gives : (nodes : List ℕ) → length nodes ≡ nodesOf s * s .len
+      → ran s nodes ≡ record { refusal = 0; steps = length steps / 4; rounds = rounds; left = length left; session = allBut left s }
+  -- the nodes buffer is as these very steps leave it, made one after the other
+  pub run-leaves : (nodes : List ℕ) → length nodes ≡ nodesOf s * s .len
+      → nodesRan s nodes ≡ nodesMade (s .len) nodes (stepsIn steps (length steps / 4))
+
+-- a step that gives this number: session and nodes buffer stay
+abbrev pub StepGives : Session → ℕ → ℕ → ℕ → ℕ → List ℕ → Type 0
+StepGives s j a b number nodes = (stepped s nodes j a b ≡ record { refusal = number; session = s }) × (nodesStepped s nodes j a b ≡ nodes)
+
+-- a box read into a nodes buffer: its session, and the buffer afterwards
+abbrev pub Reads : List ℕ → Session → ((ℕ → ℕ) → List ℕ) → List ℕ → Type 0
+Reads box s after nodes = (readBox box nodes ≡ accepted s) × (nodesRead box nodes ≡ after (λ j. getD nodes (j - 1) 0))
+
+-- what was read, written again by a list: the length and the bytes of the box, and beyond them what was there
+abbrev pub Rewrites : List ℕ → Session → List ℕ → List ℕ → List ℕ → Type 0
+Rewrites box s list nodes out =
+    (written s (nodesRead box nodes) list out ≡ record { refusal = 0; length = length box; session = s })
+    × (outWritten s (nodesRead box nodes) list out ≡ box ++ drop (length box) out)
 
 -- what an example says
 abbrev pub Holds : Row → Type 0
 Holds (Encodes family k L object nodes) =
     (buffer : List ℕ) → length buffer ≡ length nodes → (encodeAnswer family k L object buffer ≡ 0) × (encoded family k L object buffer ≡ nodes)
-Holds (Plans family k list steps rounds left) = HasPlan (started family k 1 list) steps rounds left
-Holds (BoxPlans box steps rounds left) = HasPlan (checkedBox box) steps rounds left
+Holds (Plans family k list steps rounds left) =
+    (L : ℕ) → 1 ≤ L → L ≤ mostL
+    → (started family k L list ≡ accepted (sessionOf family k L list)) × HasPlan (sessionOf family k L list) steps rounds left
+Holds (BoxPlans box s steps rounds left) = (checkedBox box ≡ accepted s) × HasPlan s steps rounds left
 Holds (BoxSteps box j a b number) =
     (checkedBox box .refusal ≡ 0)
     × ((nodes : List ℕ) → length nodes ≡ nodesOf (checkedBox box .session) * checkedBox box .session .len
-    → (stepped (checkedBox box .session) nodes j a b ≡ record { refusal = number; session = checkedBox box .session })
-    × (nodesStepped (checkedBox box .session) nodes j a b ≡ nodes))
+    → StepGives (checkedBox box .session) j a b number nodes)
+Holds (BoxReads box s after) = (nodes : List ℕ) → length nodes ≡ nodesOf s * s .len → Reads box s after nodes
+Holds (BoxHolds box j start body) = (firstMet (bodyChecks box j) ≡ 0) × (bodyStart box j ≡ start) × (bodyOf box j ≡ body)
+Holds (BoxLacks box j number) = (firstMet (bodyChecks box j) ≡ number) × (bodyOf box j ≡ [])
+Holds (BoxRewrites box s list) =
+    (nodes : List ℕ) → length nodes ≡ nodesOf s * s .len → (out : List ℕ) → length box ≤ length out → Rewrites box s list nodes out
+Holds (Lists box text) = listingOf box ≡ ascii text
 
--- every example of a table holds
-abbrev pub AllHold : List Row → Type 0
-AllHold [] = Unit {0}
-AllHold (row ∷ rows) = Holds row × AllHold rows
+-- this is so of every row of a table
+abbrev pub Every : (Row → Type 0) → List Row → Type 0
+Every So [] = Unit {0}
+Every So (row ∷ rows) = So row × Every So rows
+
+-- ---- the rows
 
 -- document 01's box: 01 03 01 00 03 00 00 00 04 05 07 04 05 07
 abbrev pub sampleBox : List ℕ
 sampleBox = 1 ∷ 3 ∷ 1 ∷ 0 ∷ 3 ∷ 0 ∷ 0 ∷ 0 ∷ 4 ∷ 5 ∷ 7 ∷ 4 ∷ 5 ∷ 7 ∷ []
+
+-- its session: simplex, k 3, L 1, nodes 4, 5 and 7 live
+abbrev pub sampleSession : Session
+sampleSession = sessionOf 1 3 1 (4 ∷ 5 ∷ 7 ∷ [])
 
 -- the table
 abbrev pub table : List Row
@@ -67,7 +124,7 @@ table =
     -- a. Simplex 3, L 1, object 1, 2, 4: node j holds j
     Encodes 1 3 1 (1 ∷ 2 ∷ 4 ∷ []) (1 ∷ 2 ∷ 3 ∷ 4 ∷ 5 ∷ 6 ∷ 7 ∷ [])
     -- b. The box above: the plan above
-    ∷ BoxPlans sampleBox (1 ∷ 1 ∷ 4 ∷ 5 ∷ 1 ∷ 2 ∷ 5 ∷ 7 ∷ 1 ∷ 3 ∷ 4 ∷ 7 ∷ 2 ∷ 6 ∷ 1 ∷ 7 ∷ []) 2 []
+    ∷ BoxPlans sampleBox sampleSession (1 ∷ 1 ∷ 4 ∷ 5 ∷ 1 ∷ 2 ∷ 5 ∷ 7 ∷ 1 ∷ 3 ∷ 4 ∷ 7 ∷ 2 ∷ 6 ∷ 1 ∷ 7 ∷ []) 2 []
     -- c. Simplex 2, live 1: steps 0, rounds 0, left 2
     ∷ Plans 1 2 (1 ∷ []) [] 0 (2 ∷ 3 ∷ [])
     -- d. Simplex 3, live 1, 2, 4: steps 4, rounds 2, left 0
@@ -89,8 +146,17 @@ table =
     -- j. Simplex 3, none live: steps 0, rounds 0, left 7; all live: left 0, rounds 0
     ∷ Plans 1 3 [] [] 0 (1 ∷ 2 ∷ 3 ∷ 4 ∷ 5 ∷ 6 ∷ 7 ∷ [])
     ∷ Plans 1 3 (1 ∷ 2 ∷ 3 ∷ 4 ∷ 5 ∷ 6 ∷ 7 ∷ []) [] 0 []
+    -- The box above, read into a nodes buffer: the bodies of 4, 5 and 7; places of missing nodes keep their bytes
+    ∷ BoxReads sampleBox sampleSession (λ was. was 1 ∷ was 2 ∷ was 3 ∷ 4 ∷ 5 ∷ was 6 ∷ 7 ∷ [])
+    -- From this box, the body of node 5 is the part at byte 12; that of node 6, which is missing, gives 12 and an empty part
+    ∷ BoxHolds sampleBox 5 12 (5 ∷ [])
+    ∷ BoxLacks sampleBox 6 12
+    -- What was read from it, written again by the list 4, 5, 7, is the box
+    ∷ BoxRewrites sampleBox sampleSession (4 ∷ 5 ∷ 7 ∷ [])
+    -- It makes the lister print, whole, these six lines
+    ∷ Lists sampleBox "family 1 k 3 length 1 live 3\n1 1 4 5\n1 2 5 7\n1 3 4 7\n2 6 1 7\nsteps 4 rounds 2 left 0\n"
     ∷ []
 
 -- the common statement
 abbrev pub Examples : Type 0
-Examples = AllHold table
+Examples = Every Holds table
