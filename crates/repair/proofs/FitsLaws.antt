@@ -14,7 +14,7 @@ use Rattle.families.proofs.Laws.{few}
 use Rattle.checks.specs.Checks.{firstMet}
 use Rattle.checks.proofs.Laws.{none-zero, none-append, parameters-in}
 use Rattle.lists.specs.Lists.{someOutside, rises, noneLive, setLive, someMissing, liveNodes}
-use Rattle.lists.proofs.Laws.{length-setLive, list-outside-none, live-nodes-few, marks-of-live-nodes}
+use Rattle.lists.proofs.Laws.{length-setLive, list-outside-none, live-nodes-few}
 use Rattle.boxes.specs.Box.{lengthIn, namesIn, nodesIn, boxLength, boxChecks}
 use Rattle.boxes.proofs.Answers.{box-none}
 use Rattle.boxes.proofs.Laws.{accepted-box}
@@ -27,11 +27,10 @@ use Rattle.repair.specs.Boxed.{sessionIn, checkedBox, readChecks, readBo
 use Rattle.repair.specs.Step.{stepChecks, stepped, nodesStepped}
 use Rattle.repair.specs.Repairs.{planIn, refusedRepairs, runChecks, ran, nodesRan}
 use Rattle.repair.specs.Calls.{Move, step, run, sessionAfter, nodesAfter}
-use Rattle.repair.specs.WholeWay.{Fits, SameCode, FitsClaim, WriteLiveClaim}
-use Rattle.repair.proofs.Accepted.{start-accepted, check-accepted, read-accepted, write-accepted}
-use Rattle.repair.proofs.StartLaws.{known, no-start-marks, nodes-0, accepted-start}
+use Rattle.repair.specs.WholeWay.{Fits, SameCode}
+use Rattle.repair.proofs.StartLaws.{no-start-marks, nodes-0, accepted-start}
 use Rattle.repair.proofs.StepLaws.{accepted-step}
-use Rattle.repair.proofs.RoundTripLaws.{accepted-write, box-starts, box-checked, accepted-read, read-size}
+use Rattle.repair.proofs.RoundTripLaws.{box-starts, accepted-read, read-size}
 use Rattle.repair.proofs.OwnLaws.{session-stepped, nodes-stepped, sized-stepped, session-ran, ran-sized}
 
 -- ---- start and read
@@ -41,7 +40,7 @@ module _ (family k L : ℕ) (list : List ℕ) (e : firstMet (startChecks family 
   unfolding started
   session-started = rw e
 
-  start-fits : (nodes : List ℕ) → length nodes ≡ nodeCount (familyOf family) k * L → Fits (started family k L list .session) nodes
+  pub start-fits : (nodes : List ℕ) → length nodes ≡ nodeCount (familyOf family) k * L → Fits (started family k L list .session) nodes
   start-fits nodes size =
       let a = accepted-start family k L list e in
       let s = sessionOf family k L list in
@@ -52,7 +51,7 @@ module _ (family k L : ℕ) (list : List ℕ) (e : firstMet (startChecks family 
         size = size;
       })
 
-read-same : (bytes nodes : List ℕ) → firstMet (boxChecks bytes) ≡ 0 → length nodes ≡ nodesIn bytes * lengthIn bytes → readBox bytes nodes ≡ checkedBox bytes
+pub read-same : (bytes nodes : List ℕ) → firstMet (boxChecks bytes) ≡ 0 → length nodes ≡ nodesIn bytes * lengthIn bytes → readBox bytes nodes ≡ checkedBox bytes
 unfolding readBox checkedBox readChecks firstMet
 read-same bytes nodes e size =
     let reads : firstMet (readChecks bytes nodes) ≡ 0 = none-append (boxChecks bytes) _ (box-none bytes e) ∙ simp (eq-eqb (length nodes) (nodesIn bytes * lengthIn bytes) size) in
@@ -123,7 +122,7 @@ module _ (s : Session) (nodes : List ℕ) where
 
 -- ---- every live node written
 
-fits-write : (s : Session) (nodes out : List ℕ) → Fits s nodes → boxLength (nodesOf s) (s .len) ≤ length out → written s nodes [] out .refusal ≡ 0
+pub fits-write : (s : Session) (nodes out : List ℕ) → Fits s nodes → boxLength (nodesOf s) (s .len) ≤ length out → written s nodes [] out .refusal ≡ 0
 unfolding written writeChecks nodesChecks someOutside rises someMissing
 fits-write s nodes out f room =
     let few-live = live-nodes-few (s .live) (nodesOf s) in
@@ -131,25 +130,3 @@ fits-write s nodes out f room =
     = none-zero (writeChecks s nodes [] out)
     (f .starts, (ap not (eq-eqb (length nodes) (nodesOf s * s .len) (f .size)), (refl, (refl, (refl, (le-ltb (length out) (boxLength (length (liveNodes (s .live) (nodesOf s))) (s .len)) (omega (arith, few-live, mul-le-mul-right (s .len) few-live)), tt)))))) in
     rw none
-
-pub fits-claim : FitsClaim
-unfolding ran
-fits-claim =
-    record {
-      start = λ family k L list nodes h size. start-fits family k L list (start-accepted family k L list h) nodes size;
-      read = λ bytes nodes h size. read-same bytes nodes (check-accepted bytes h) size;
-      read-fits = λ bytes nodes h. read-fits bytes nodes (read-accepted bytes nodes h);
-      call = fits-call;
-      same = same-code;
-      run = λ s nodes f. rw (fits-runs s nodes f);
-      write = fits-write;
-    }
-
--- the listed nodes are all that are live, so their session is the one that they were listed from
-pub write-live-claim : WriteLiveClaim
-write-live-claim s nodes out size h =
-    let e = write-accepted s nodes [] out h in
-    let g = known s (accepted-write s nodes [] out e .starts) in
-    box-checked s nodes [] out e
-    ∙ ap (λ (live : List Bool). record { refusal = 0; session = record { family = s .family; k = s .k; len = s .len; live = live } })
-    (marks-of-live-nodes (nodesOf s) (s .live) size (few (familyOf (s .family)) (s .k) (g .range .blocks)) (g .inside))

@@ -60,7 +60,8 @@ unfolding checkedBox started
 box-start-claim bytes h =
     let e = check-accepted bytes h in
     let a = accepted-box bytes e in
-    rw (e, start-0 (familyIn bytes) (kIn bytes) (lengthIn bytes) (namesIn bytes) (parameters-in (familyIn bytes) (kIn bytes) (lengthIn bytes) (a .range)) (a .nodes) (a .rising))
+    let starts = start-0 (familyIn bytes) (kIn bytes) (lengthIn bytes) (namesIn bytes) (parameters-in (familyIn bytes) (kIn bytes) (lengthIn bytes) (a .range)) (a .nodes) (a .rising) in
+    record { form = a; is = rw e; start = rw (e, starts) }
 
 pub start-marks-claim : StartMarksClaim
 unfolding started

@@ -1,4 +1,4 @@
--- The claims of specs/WholeWay.antt on an object's own blocks, on read out after a run, and on the whole way.
+-- The claims of specs/WholeWay.antt.
 -- Assumes nothing.
 use mathlib.Core.Path.{_≡_, refl, sym, ap, ap₂, _∙_}
 use mathlib.Core.Bool.{Bool, true, false, not, false≢true}
@@ -19,7 +19,7 @@ use Rattle.encoding.specs.Encode.{encodeAnswer, encoded}
 use Rattle.encoding.proofs.Answers.{accepted-call, written as encoded-is}
 use Rattle.encoding.proofs.Nodes.{buffer-block}
 use Rattle.lists.specs.Lists.{noneLive, isLive, someMissing, placeIn}
-use Rattle.lists.proofs.Laws.{length-setLive, live-of-list, outside-none, outside-more}
+use Rattle.lists.proofs.Laws.{length-setLive, live-of-list, marks-of-live-nodes, outside-none, outside-more}
 use Rattle.boxes.specs.Box.{familyIn, kIn, lengthIn, heldIn, namesIn, nodesIn, boxChecks}
 use Rattle.boxes.proofs.Laws.{accepted-box, FieldsOf, fields-of}
 use Rattle.planning.specs.Pairs.{NoPairLeft}
@@ -37,22 +37,46 @@ use Rattle.repair.specs.Calls.{Move, run, sessionAfter, nodesAfter, Call
 use Rattle.repair.specs.LeftOver.{isIn, lastSession, LeftOver}
 use Rattle.repair.specs.Claims.{boxWritten}
 use Rattle.repair.specs.RepairClaims.{LiveAreOwn, OwnClaims}
-use Rattle.repair.specs.WholeWay.{Fits, BodiesAreOwn, OwnBoxClaim, MissingOpenClaim, LowestOpen, OutWhereOpen, OutAfterRunClaim, Way, startOf, nodesEncoded, boxAway, heldAt, OnTheWay, WholeWayClaim}
-use Rattle.repair.proofs.Accepted.{start-accepted, read-accepted, write-accepted, run-accepted}
+use Rattle.repair.specs.WholeWay.{Fits, FitsClaim, WriteLiveClaim, BodiesAreOwn, OwnBoxClaim, MissingOpenClaim, LowestOpen, OutWhereOpen, OutAfterRunClaim, Way, startOf, nodesEncoded, boxAway, heldAt, OnTheWay, WholeWayClaim}
+use Rattle.repair.proofs.Accepted.{start-accepted, check-accepted, read-accepted, write-accepted, run-accepted}
 use Rattle.repair.proofs.StartLaws.{known, nodes-0}
 use Rattle.repair.proofs.ReadOutLaws.{by-block, accepted-out, read}
 use Rattle.repair.proofs.ListedLaws.{first-zero, place-there}
-use Rattle.repair.proofs.RoundTripLaws.{accepted-write, box-written, accepted-read}
+use Rattle.repair.proofs.RoundTripLaws.{accepted-write, box-written, box-checked, accepted-read}
 use Rattle.repair.proofs.Proved.{read-body-claim, written-body-claim, box-start-claim}
 use Rattle.repair.proofs.RepairsProved.{run-ends, own-claim}
 use Rattle.repair.proofs.LeftOverProved.{session-is, demand-3}
 use Rattle.repair.proofs.CallLaws.{FromStart, from-start}
 use Rattle.repair.proofs.OwnLaws.{ran-sized}
-use Rattle.repair.proofs.FitsLaws.{fits-claim, session-started, session-read, read-fits, fits-call}
+use Rattle.repair.proofs.FitsLaws.{session-started, start-fits, read-same, session-read, read-fits, fits-runs, fits-call, same-code, fits-write}
 
 not-true : (b : Bool) → not b ≡ true → b ≡ false
 not-true true h = absurd (false≢true h)
 not-true false h = refl
+
+-- ---- a session and a nodes buffer that go together
+
+pub fits-claim : FitsClaim
+unfolding ran
+fits-claim =
+    record {
+      start = λ family k L list nodes h size. start-fits family k L list (start-accepted family k L list h) nodes size;
+      read = λ bytes nodes h size. read-same bytes nodes (check-accepted bytes h) size;
+      read-fits = λ bytes nodes h. read-fits bytes nodes (read-accepted bytes nodes h);
+      call = fits-call;
+      same = same-code;
+      run = λ s nodes f. rw (fits-runs s nodes f);
+      write = fits-write;
+    }
+
+-- the listed nodes are all that are live, so their session is the one that they were listed from
+pub write-live-claim : WriteLiveClaim
+write-live-claim s nodes out size h =
+    let e = write-accepted s nodes [] out h in
+    let g = known s (accepted-write s nodes [] out e .starts) in
+    box-checked s nodes [] out e
+    ∙ ap (λ (live : List Bool). record { refusal = 0; session = record { family = s .family; k = s .k; len = s .len; live = live } })
+    (marks-of-live-nodes (nodesOf s) (s .live) size (few (familyOf (s .family)) (s .k) (g .range .blocks)) (g .inside))
 
 -- ---- the object's own blocks
 
@@ -285,11 +309,12 @@ module _ (bytes nodes : List ℕ) (e : firstMet (readChecks bytes nodes) ≡ 0) 
   checks = rw passes
 
   starts : from-box .refusal ≡ 0
-  starts = ap (λ (r : Started). r .refusal) (sym (box-start-claim bytes checks)) ∙ checks
+  starts = ap (λ (r : Started). r .refusal) (sym (box-start-claim bytes checks .start)) ∙ checks
 
   session-from : readBox bytes nodes .session ≡ from-box .session
-  unfolding checkedBox
-  session-from = session-read bytes nodes e ∙ rw passes at (ap (λ (r : Started). r .session) (box-start-claim bytes checks))
+  session-from =
+      let c = box-start-claim bytes checks in
+      session-read bytes nodes e ∙ ap (λ (r : Started). r .session) (sym (c .is) ∙ c .start)
 
   module _ (moves : List Move) where
     abbrev held : Held

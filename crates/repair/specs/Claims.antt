@@ -12,6 +12,7 @@ use Rattle.checks.specs.Parameters.{parameterChecks}
 use Rattle.lists.specs.Lists.{isLive, placeIn}
 use Rattle.boxes.specs.Box.{familyIn, kIn, lengthIn, heldIn, zerosIn, namesIn, boxLength, bodyChecks, bodyOf}
 use Rattle.boxes.specs.Bodies.{boxOf}
+use Rattle.boxes.specs.Claims.{AcceptedBox}
 use Rattle.repair.specs.declared.Session.{Session}
 use Rattle.repair.specs.Session.{sessionOf, refusedStart, started, nodesOf, noStart}
 use Rattle.repair.specs.Boxed.{sessionIn, checkedBox, readBox, nodesRead, listed, writtenLength, written, outWritten}
@@ -87,9 +88,16 @@ WrittenBodyClaim = (s : Session) (nodes list out : List ℕ) → written s nodes
 
 -- ---- a box and its session
 
--- an accepted box gives the session that the start with its family, k, L and node numbers gives
+-- of an accepted box
+pub record BoxSession (bytes : List ℕ) : Type 0 where
+  -- it is as document 01 says
+  pub form : AcceptedBox bytes
+  -- its session has the named nodes live, and is the one that the start with its family, k, L and node numbers gives
+  pub is : checkedBox bytes ≡ record { refusal = 0; session = sessionIn bytes }
+  pub start : checkedBox bytes ≡ started (familyIn bytes) (kIn bytes) (lengthIn bytes) (namesIn bytes)
+
 abbrev pub BoxStartClaim : Type 0
-BoxStartClaim = (bytes : List ℕ) → checkedBox bytes .refusal ≡ 0 → checkedBox bytes ≡ started (familyIn bytes) (kIn bytes) (lengthIn bytes) (namesIn bytes)
+BoxStartClaim = (bytes : List ℕ) → checkedBox bytes .refusal ≡ 0 → BoxSession bytes
 
 -- 7 is what check, read and a body give
 pub record Cut (bytes : List ℕ) : Type 0 where
