@@ -9,13 +9,13 @@ use borrow.Author.Tests.{eq-eqb, ne-eqb, le-ltb}
 use lib.ListN.{length, getD}
 use lib.Seq.{drop-drop}
 use borrow.Rule.Slice.PartMut.{midOf}
-use Rattle.families.specs.Families.{familyOf, nodeCount}
+use Rattle.families.specs.Families.{familyOf, nodeCount, IsNode}
 use Rattle.blocks.specs.Blocks.{blockOf}
 use Rattle.blocks.proofs.PartLaws.{length-mid}
 use Rattle.checks.specs.Checks.{firstMet}
 use Rattle.checks.proofs.Laws.{none-zero, parameters-in}
 use Rattle.lists.specs.Lists.{rises, placeIn}
-use Rattle.boxes.specs.Box.{lengthIn, heldIn, namesIn, bodiesIn, nodesIn, boxChecks, bodyChecks, bodyPlace, bodyOf}
+use Rattle.boxes.specs.Box.{familyIn, kIn, lengthIn, heldIn, namesIn, bodiesIn, nodesIn, boxChecks, bodyChecks, bodyPlace, bodyOf}
 use Rattle.boxes.specs.Bodies.{boxOf, withBodies}
 use Rattle.boxes.specs.Names.{nameChecks}
 use Rattle.boxes.specs.Claims.{AcceptedBox, BoxClaim, BodyClaims, BodyClaim, BoxOfBodyClaim}
@@ -61,10 +61,11 @@ module _ (bytes : List ℕ) (e : firstMet (boxChecks bytes) ≡ 0) (i : ℕ) (l 
   place : bodyPlace (namesIn bytes) node ≡ i
   place = held
 
+  is-node : IsNode (familyOf (familyIn bytes)) (kIn bytes) node
+  is-node = let n = node-inside (nodesIn bytes) (namesIn bytes) i (box .nodes) named in record { first = n .0; last = n .1 }
+
   given : firstMet (bodyChecks bytes node) ≡ 0
-  given =
-      let n = node-inside (nodesIn bytes) (namesIn bytes) i (box .nodes) named in
-      by-none bytes node e (n .0) (n .1) (omega (arith, held))
+  given = by-none bytes node e (is-node .first) (is-node .last) (omega (arith, held))
 
   part : bodyOf bytes node ≡ midOf (i * lengthIn bytes) (lengthIn bytes) (bodiesIn bytes)
   part = sym (body-part bytes node given) ∙ rw (place, drop-drop (i * lengthIn bytes) (8 + heldIn bytes) bytes)
@@ -84,7 +85,7 @@ module _ (bytes : List ℕ) (e : firstMet (boxChecks bytes) ≡ 0) (i : ℕ) (l 
       ∙ sym part
 
   pub body-claims : BodyClaims bytes i
-  body-claims = record { given = given; size = ap length part ∙ length-mid (bodiesIn bytes) (i * lengthIn bytes) (lengthIn bytes) fits; read = read }
+  body-claims = record { node = is-node; given = given; size = ap length part ∙ length-mid (bodiesIn bytes) (i * lengthIn bytes) (lengthIn bytes) fits; read = read }
 
 pub body-claim : BodyClaim
 body-claim bytes e i l = body-claims bytes e i l

@@ -5,7 +5,7 @@ use mathlib.Core.List.{List}
 use mathlib.Core.Logic.{_↔_}
 use Prim.Native.Nat.{ℕ, _*_, _≤_, _<_}
 use lib.ListN.{length, getD}
-use Rattle.families.specs.Families.{familyOf, nodeCount}
+use Rattle.families.specs.Families.{familyOf, nodeCount, IsNode}
 use Rattle.checks.specs.Checks.{firstMet}
 use Rattle.checks.specs.Claims.{InRange}
 use Rattle.blocks.specs.Blocks.{blockOf}
@@ -34,10 +34,18 @@ pub record AcceptedBox (bytes : List ℕ) : Type 0 where
 abbrev pub BoxClaim : Type 0
 BoxClaim = (bytes : List ℕ) → (firstMet (boxChecks bytes) ≡ 0) ↔ AcceptedBox bytes
 
+-- node j is named: it stands at a place among the node numbers
+pub record Named (bytes : List ℕ) (j : ℕ) : Type 0 where
+  pub place : ℕ
+  pub within : place < heldIn bytes
+  pub there : getD (namesIn bytes) place 0 ≡ j
+
 -- ---- the body of a node
 
 -- of the node at place i among the node numbers
 pub record BodyClaims (bytes : List ℕ) (i : ℕ) : Type 0 where
+  -- it is a node
+  pub node : IsNode (familyOf (familyIn bytes)) (kIn bytes) (getD (namesIn bytes) i 0)
   -- its body is not refused, and is L bytes
   pub given : firstMet (bodyChecks bytes (getD (namesIn bytes) i 0)) ≡ 0
   pub size : length (bodyOf bytes (getD (namesIn bytes) i 0)) ≡ lengthIn bytes

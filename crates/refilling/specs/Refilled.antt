@@ -16,9 +16,13 @@ use Rattle.listing.specs.Listing.{mostBytes, answerOf}
 abbrev pub liveBox : Session → List ℕ → List ℕ
 liveBox s nodes = boxOf (s .family) (s .k) (s .len) (listed s []) nodes
 
+-- the session whose live nodes are written: the one after the run
+abbrev pub afterRun : Session → List ℕ → Session
+afterRun s nodes = ran s nodes .session
+
 -- the plan of a session run on a nodes buffer, and the box of all live nodes then
 unfoldable pub boxAfterRun : Session → List ℕ → List ℕ
-boxAfterRun s nodes = liveBox (ran s nodes .session) (nodesRan s nodes)
+boxAfterRun s nodes = liveBox (afterRun s nodes) (nodesRan s nodes)
 
 -- the box read into a nodes buffer, in which the places of missing nodes are zeros
 unfoldable pub nodesHeld : List ℕ → List ℕ

@@ -1,7 +1,7 @@
 -- Steps and runs as calls on a session and a nodes buffer: a run is its plan's steps, and both keep the object's own blocks.
 -- Assumes nothing.
 use mathlib.Core.Path.{_≡_, refl, sym, ap₂, _∙_, subst}
-use mathlib.Core.Bool.{Bool, true, false, _||_, false≢true}
+use mathlib.Core.Bool.{Bool, true, false, cond, _||_, false≢true}
 use mathlib.Core.List.{List, [], _∷_, map}
 use Prim.Native.Nat.{ℕ, zero, suc, _+_, _-_, _*_, _≤_, _<_}
 use native.Mathlib.Decide.{ℕ-discrete}
@@ -32,6 +32,8 @@ use Rattle.planning.proofs.Proved.{plan-claim}
 use Rattle.readout.specs.DataBlocks.{dataNode, missingBlock}
 use Rattle.readout.proofs.Laws.{data-node, blocks-of-encoded}
 use Rattle.repair.specs.declared.Session.{Session}
+use Rattle.repair.specs.declared.Stepped.{Stepped}
+use Rattle.repair.specs.declared.Repairs.{Repairs}
 use Rattle.repair.specs.Session.{nodesOf, noStart, nodesChecks}
 use Rattle.repair.specs.ReadOut.{missingIn, readOutChecks, objectOut}
 use Rattle.repair.specs.Step.{stepChecks, withLive, stepped, nodesStepped}
@@ -242,6 +244,21 @@ module _ (s : Session) (starts : noStart s ≡ false) (nodes : List ℕ) where
       go : (met : Bool) → eqb (firstMet (runChecks s nodes)) 0 ≡ met → noStart (ran s nodes .session) ≡ false
       go true e = ran-sized s nodes (eqb-true _ 0 e) size .starts
       go false e = rw e starts
+
+-- a live node stays live
+module _ (s : Session) (nodes : List ℕ) where
+  either-keeps : {R : Type 0} (get : R → Session) (done refused : R) (list : List ℕ) → get done .live ≡ setLive (s .live) list → get refused .live ≡ s .live
+      → (b : Bool) (i : ℕ) → isLive (s .live) i ≡ true → isLive (get (cond b done refused) .live) i ≡ true
+  either-keeps get done refused list y n true i l = rw y (live-keeps (s .live) list i l)
+  either-keeps get done refused list y n false i l = rw n l
+
+  pub stepped-keeps : (j a b : ℕ) (i : ℕ) → isLive (s .live) i ≡ true → isLive (stepped s nodes j a b .session .live) i ≡ true
+  unfolding stepped
+  stepped-keeps j a b i l = either-keeps (λ (r : Stepped). r .session) _ _ (j ∷ []) refl refl (eqb (firstMet (stepChecks s nodes j a b)) 0) i l
+
+  pub ran-keeps : (i : ℕ) → isLive (s .live) i ≡ true → isLive (ran s nodes .session .live) i ≡ true
+  unfolding ran
+  ran-keeps i l = either-keeps (λ (r : Repairs). r .session) _ _ (repairedNodes (planIn s)) refl refl (eqb (firstMet (runChecks s nodes)) 0) i l
 
 -- ---- the object's own blocks
 

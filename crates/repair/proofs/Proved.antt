@@ -3,18 +3,19 @@
 use mathlib.Core.Path.{_≡_, refl, sym, ap, _∙_}
 use mathlib.Core.Bool.{Bool, true, false}
 use mathlib.Core.List.{List}
-use Prim.Native.Nat.{ℕ, _≤_}
+use Prim.Native.Nat.{ℕ, _≤_, _<_}
 use native.Mathlib.Nat.{mul-le-mul-right}
 use native.Mathlib.Omega.{arith}
-use borrow.Author.Tests.{ltb-true, ltb-false}
+use borrow.Author.Tests.{lt-ltb, ltb-true, ltb-false}
 use lib.Dec.{ltb}
+use lib.ListN.{length}
 use Rattle.families.specs.Families.{familyOf, nodeCount}
 use Rattle.families.proofs.Laws.{few}
 use Rattle.checks.specs.Checks.{firstMet}
 use Rattle.checks.proofs.Laws.{parameters-in}
-use Rattle.lists.specs.Lists.{noneLive, setLive, liveNodes, liveOutside}
+use Rattle.lists.specs.Lists.{placeIn, noneLive, isLive, setLive, liveNodes, liveOutside}
 use Rattle.lists.proofs.Laws.{live-of-list, marks-of-live-nodes, list-outside-none, outside-more}
-use Rattle.boxes.specs.Box.{familyIn, kIn, lengthIn, namesIn, heldIn, boxLength, boxChecks}
+use Rattle.boxes.specs.Box.{familyIn, kIn, lengthIn, namesIn, nodesIn, heldIn, boxLength, boxChecks}
 use Rattle.boxes.proofs.Answers.{by-length, by-box, body-empty}
 use Rattle.boxes.proofs.Laws.{accepted-box}
 use Rattle.boxes.proofs.Proved.{body-claim, box-of-body-claim}
@@ -24,8 +25,9 @@ use Rattle.repair.specs.Boxed.{checkedBox, listed}
 use Rattle.repair.specs.Claims.{FromStart, NoStartClaim, StartMarksClaim, WriteReadClaim, ReadKeepsClaim, ReadWriteClaim, ReadBodyClaim, WrittenBodyClaim, BoxStartClaim, WrongCountClaim}
 use Rattle.repair.proofs.Accepted.{start-accepted, check-accepted, read-accepted, write-accepted}
 use Rattle.repair.proofs.StartLaws.{known, start-0, no-start-marks, accepted-start}
+use Rattle.repair.proofs.ListedLaws.{place-there, place-before}
 use Rattle.repair.proofs.BoxedLaws.{read-by-box}
-use Rattle.repair.proofs.RoundTripLaws.{live-good, accepted-write, box-written, write-answer, write-room, write-rest, box-passes, box-checked, box-reads, bodies-read, accepted-read, read-is, read-keeps, again-all, again-named}
+use Rattle.repair.proofs.RoundTripLaws.{live-good, accepted-write, box-written, write-answer, write-room, write-rest, box-passes, box-names, box-checked, box-reads, bodies-read, accepted-read, read-is, read-keeps, again-all, again-named}
 
 -- ---- start
 
@@ -61,7 +63,20 @@ box-start-claim bytes h =
     let e = check-accepted bytes h in
     let a = accepted-box bytes e in
     let starts = start-0 (familyIn bytes) (kIn bytes) (lengthIn bytes) (namesIn bytes) (parameters-in (familyIn bytes) (kIn bytes) (lengthIn bytes) (a .range)) (a .nodes) (a .rising) in
-    record { form = a; is = rw e; start = rw (e, starts) }
+    let few-nodes = few (familyOf (familyIn bytes)) (kIn bytes) (a .range .blocks) in
+    let live : (j : ℕ) → j < 256 → isLive (checkedBox bytes .session .live) j ≡ ltb (placeIn (namesIn bytes) j) (length (namesIn bytes))
+    = λ j l. rw e (live-of-list (namesIn bytes) j l (outside-more (nodesIn bytes) 255 (namesIn bytes) few-nodes (a .nodes))) in
+    record {
+      form = a;
+      is = rw e;
+      start = rw (e, starts);
+      named = λ j l. (
+        (λ t.
+            let p : placeIn (namesIn bytes) j < length (namesIn bytes) = ltb-true _ _ (sym (live j l) ∙ t) in
+            record { place = placeIn (namesIn bytes) j; within = omega (arith, p, a .names-size); there = place-there (namesIn bytes) j p }),
+        (λ n. live j l ∙ lt-ltb _ _ (place-before (namesIn bytes) j (n .place) (omega (arith, n .within, a .names-size)) (n .there))),
+      );
+    }
 
 pub start-marks-claim : StartMarksClaim
 unfolding started
@@ -80,6 +95,7 @@ write-read-claim s nodes list out h =
       answer = write-answer s nodes list out e;
       room = write-room s nodes list out e;
       rest = write-rest s nodes list out e;
+      names = box-names s nodes list out e;
       checks = box-checked s nodes list out e;
       reads = box-reads s nodes list out e;
       bodies = bodies-read s nodes list out e;

@@ -14,15 +14,19 @@ use Rattle.repair.specs.Session.{nodesOf}
 use Rattle.repair.specs.ReadOut.{readOut}
 use Rattle.repair.specs.Repairs.{planIn, runChecks, ran}
 use Rattle.repair.specs.Calls.{step, run, heldAfter}
-use Rattle.repair.specs.RepairClaims.{StaysClaim, RunIsStepsClaim, RunEndsClaim, PlacesKeptClaim, LiveKeptClaim, RunAgainClaim, OwnClaim}
+use Rattle.repair.specs.RepairClaims.{StaysClaim, LiveStaysClaim, RunIsStepsClaim, RunEndsClaim, PlacesKeptClaim, LiveKeptClaim, RunAgainClaim, OwnClaim}
 use Rattle.repair.proofs.Accepted.{run-accepted}
 use Rattle.repair.proofs.StartLaws.{nodes-0}
 use Rattle.repair.proofs.CallLaws.{ran-left}
-use Rattle.repair.proofs.OwnLaws.{stays-stepped, stays-ran, run-known, session-ran, ran-sized, run-steps, run-keeps-left, run-keeps-live, quiet-answer, quiet-nodes, OwnHeld, own-moves, own-out}
+use Rattle.repair.proofs.OwnLaws.{stays-stepped, stays-ran, stepped-keeps, ran-keeps, run-known, session-ran, ran-sized, run-steps, run-keeps-left, run-keeps-live, quiet-answer, quiet-nodes, OwnHeld, own-moves, own-out}
 
 pub stays-claim : StaysClaim
 stays-claim s size starts nodes (step j a b) = stays-stepped s starts nodes j a b
 stays-claim s size starts nodes run = stays-ran s starts nodes size
+
+pub live-stays : LiveStaysClaim
+live-stays s nodes (step j a b) i l = stepped-keeps s nodes j a b i l
+live-stays s nodes run i l = ran-keeps s nodes i l
 
 pub run-is-steps : RunIsStepsClaim
 run-is-steps s size nodes h = run-steps s nodes (run-accepted s nodes h) size

@@ -1,13 +1,13 @@
 -- What an accepted write says and what its box checks and reads to, and how an accepted box that is read is written again.
 -- Assumes nothing.
-use mathlib.Core.Path.{_≡_, refl, sym, ap, _∙_}
+use mathlib.Core.Path.{_≡_, refl, sym, ap, ap₂, _∙_}
 use mathlib.Core.Bool.{true, false, not}
 use mathlib.Core.List.{List, [], _∷_, _++_}
 use Prim.Native.Nat.{ℕ, _*_, _≤_, _<_}
 use native.Mathlib.Omega.{arith}
 use borrow.Author.Tests.{eqb-true, eq-eqb, ltb-false, le-ltb, not-false}
 use lib.Dec.{eqb}
-use lib.ListN.{length, getD, drop}
+use lib.ListN.{length, getD, take, drop}
 use lib.Seq.{take-at}
 use Rattle.families.specs.Families.{familyOf}
 use Rattle.families.proofs.Laws.{few}
@@ -115,6 +115,9 @@ module _ (s : Session) (nodes list out : List ℕ) (e : firstMet (writeChecks s 
 
   fields : FieldsOf (s .family) (s .k) (s .len) (listed s list) nodes
   fields = fields-of (s .family) (s .k) (s .len) (listed s list) nodes
+
+  pub box-names : namesIn (boxWritten s nodes list out) ≡ listed s list
+  box-names = ap namesIn box-written ∙ fields .names-is
 
   -- it checks to the session of the listed nodes
   pub box-checked : checkedBox (boxWritten s nodes list out) ≡ record { refusal = 0; session = sessionOf (s .family) (s .k) (s .len) (listed s list) }
@@ -231,7 +234,8 @@ module _ (bytes nodes : List ℕ) (e : firstMet (readChecks bytes nodes) ≡ 0) 
         let none : firstMet (writeChecks (sessionIn bytes) (nodesRead bytes nodes) list out) ≡ 0
         = none-zero (writeChecks (sessionIn bytes) (nodesRead bytes nodes) list out)
         (box-starts bytes passed, (ap not (eq-eqb _ _ read-size), (g .outside, (ap not (g .rising), (m, (le-ltb (length out) (writtenLength (sessionIn bytes) list) (omega arith), tt)))))) in
-        record { answer = rw (none, long); box = rw (none, long, q, box-again) }
+        let rest : outWritten (sessionIn bytes) (nodesRead bytes nodes) list out ≡ bytes ++ drop (length bytes) out = rw (none, long, q, box-again) in
+        record { answer = rw (none, long); rest = rest; box = ap₂ (λ (n : ℕ) (x : List ℕ). take n x) long rest ∙ take-at bytes (drop (length bytes) out) (length bytes) refl }
 
     pub again-all : WrittenAgain bytes nodes [] out
     unfolding someOutside rises someMissing

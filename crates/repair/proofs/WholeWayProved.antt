@@ -7,7 +7,7 @@ use mathlib.Core.Logic.{_↔_}
 use Prim.Native.Nat.{ℕ, zero, suc, _*_, _≤_, _<_}
 use native.Mathlib.Decide.{ℕ-discrete}
 use native.Mathlib.Omega.{arith}
-use borrow.Author.Tests.{ltb-true, not-false}
+use borrow.Author.Tests.{not-false}
 use lib.ListN.{length, getD}
 use Rattle.base.proofs.Tests.{or-neither}
 use Rattle.families.specs.declared.Family.{Family}
@@ -18,10 +18,10 @@ use Rattle.checks.specs.Checks.{firstMet}
 use Rattle.encoding.specs.Encode.{encodeAnswer, encoded}
 use Rattle.encoding.proofs.Answers.{accepted-call, written as encoded-is}
 use Rattle.encoding.proofs.Nodes.{buffer-block}
-use Rattle.lists.specs.Lists.{noneLive, isLive, someMissing, placeIn}
-use Rattle.lists.proofs.Laws.{length-setLive, live-of-list, marks-of-live-nodes, outside-none, outside-more}
-use Rattle.boxes.specs.Box.{familyIn, kIn, lengthIn, heldIn, namesIn, nodesIn, boxChecks}
-use Rattle.boxes.proofs.Laws.{accepted-box, FieldsOf, fields-of}
+use Rattle.lists.specs.Lists.{noneLive, isLive, someMissing}
+use Rattle.lists.proofs.Laws.{length-setLive, marks-of-live-nodes, outside-none}
+use Rattle.boxes.specs.Box.{familyIn, kIn, lengthIn, namesIn, nodesIn, boxChecks}
+use Rattle.boxes.proofs.Laws.{FieldsOf, fields-of}
 use Rattle.planning.specs.Pairs.{NoPairLeft}
 use Rattle.leftover.specs.Open.{Open}
 use Rattle.readout.specs.DataBlocks.{dataNode, missingBlock}
@@ -41,7 +41,7 @@ use Rattle.repair.specs.WholeWay.{Fits, FitsClaim, WriteLiveClaim, Bodie
 use Rattle.repair.proofs.Accepted.{start-accepted, check-accepted, read-accepted, write-accepted, run-accepted}
 use Rattle.repair.proofs.StartLaws.{known, nodes-0}
 use Rattle.repair.proofs.ReadOutLaws.{by-block, accepted-out, read}
-use Rattle.repair.proofs.ListedLaws.{first-zero, place-there}
+use Rattle.repair.proofs.ListedLaws.{first-zero}
 use Rattle.repair.proofs.RoundTripLaws.{accepted-write, box-written, box-checked, accepted-read}
 use Rattle.repair.proofs.Proved.{read-body-claim, written-body-claim, box-start-claim}
 use Rattle.repair.proofs.RepairsProved.{run-ends, own-claim}
@@ -80,6 +80,10 @@ write-live-claim s nodes out size h =
 
 -- ---- the object's own blocks
 
+checks : (bytes : List ℕ) → firstMet (boxChecks bytes) ≡ 0 → checkedBox bytes .refusal ≡ 0
+unfolding checkedBox
+checks bytes e = rw e
+
 own-encode : (family k L : ℕ) (object nodes list : List ℕ) → encodeAnswer family k L object nodes ≡ 0 → started family k L list .refusal ≡ 0
     → LiveAreOwn object (started family k L list .session) (encoded family k L object nodes)
 own-encode family k L object nodes list e h =
@@ -112,15 +116,13 @@ own-read : (object bytes nodes : List ℕ) → BodiesAreOwn object bytes → rea
     → LiveAreOwn object (readBox bytes nodes .session) (nodesRead bytes nodes)
 own-read object bytes nodes own h =
     let e = read-accepted bytes nodes h in
-    let a = accepted-box bytes (accepted-read bytes nodes e .passes) in
-    let few-nodes = few (familyOf (familyIn bytes)) (kIn bytes) (a .range .blocks) in
+    let c = box-start-claim bytes (checks bytes (accepted-read bytes nodes e .passes)) in
+    let few-nodes = few (familyOf (familyIn bytes)) (kIn bytes) (c .form .range .blocks) in
     rw (session-read bytes nodes e)
     (λ j n l.
-    let in-list = live-of-list (namesIn bytes) j (omega (arith, n .last, few-nodes)) (outside-more (nodesIn bytes) 255 (namesIn bytes) few-nodes (a .nodes)) in
-    let p : placeIn (namesIn bytes) j < length (namesIn bytes) = ltb-true _ _ (sym in-list ∙ l) in
-    let q : placeIn (namesIn bytes) j < heldIn bytes = omega (arith, p, a .names-size) in
-    let own-here = read-body-claim bytes nodes h (placeIn (namesIn bytes) j) q ∙ own (placeIn (namesIn bytes) j) q in
-    rw (place-there (namesIn bytes) j p) at own-here)
+    let at = c .named j (omega (arith, n .last, few-nodes)) .0 (rw (c .is) l) in
+    let own-here = read-body-claim bytes nodes h (at .place) (at .within) ∙ own (at .place) (at .within) in
+    rw (at .there) at own-here)
 
 pub own-box-claim : OwnBoxClaim
 own-box-claim = record { encode = own-encode; write = own-write; read = own-read }
@@ -304,16 +306,12 @@ module _ (bytes nodes : List ℕ) (e : firstMet (readChecks bytes nodes) ≡ 0) 
   abbrev from-box : Started
   from-box = started (familyIn bytes) (kIn bytes) (lengthIn bytes) (namesIn bytes)
 
-  checks : checkedBox bytes .refusal ≡ 0
-  unfolding checkedBox
-  checks = rw passes
-
   starts : from-box .refusal ≡ 0
-  starts = ap (λ (r : Started). r .refusal) (sym (box-start-claim bytes checks .start)) ∙ checks
+  starts = ap (λ (r : Started). r .refusal) (sym (box-start-claim bytes (checks bytes passes) .start)) ∙ checks bytes passes
 
   session-from : readBox bytes nodes .session ≡ from-box .session
   session-from =
-      let c = box-start-claim bytes checks in
+      let c = box-start-claim bytes (checks bytes passes) in
       session-read bytes nodes e ∙ ap (λ (r : Started). r .session) (sym (c .is) ∙ c .start)
 
   module _ (moves : List Move) where

@@ -12,7 +12,7 @@ use Rattle.checks.specs.Parameters.{parameterChecks}
 use Rattle.lists.specs.Lists.{isLive, placeIn}
 use Rattle.boxes.specs.Box.{familyIn, kIn, lengthIn, heldIn, zerosIn, namesIn, boxLength, bodyChecks, bodyOf}
 use Rattle.boxes.specs.Bodies.{boxOf}
-use Rattle.boxes.specs.Claims.{AcceptedBox}
+use Rattle.boxes.specs.Claims.{AcceptedBox, Named}
 use Rattle.repair.specs.declared.Session.{Session}
 use Rattle.repair.specs.Session.{sessionOf, refusedStart, started, nodesOf, noStart}
 use Rattle.repair.specs.Boxed.{sessionIn, checkedBox, readBox, nodesRead, listed, writtenLength, written, outWritten}
@@ -46,7 +46,8 @@ pub record WriteReadClaims (s : Session) (nodes list out : List ℕ) : Type 0 wh
   pub answer : written s nodes list out ≡ record { refusal = 0; length = length (boxWritten s nodes list out); session = s }
   pub room : length (boxWritten s nodes list out) ≤ length out
   pub rest : outWritten s nodes list out ≡ boxWritten s nodes list out ++ drop (length (boxWritten s nodes list out)) out
-  -- the box checks to the session of the listed nodes, and reads, into whatever buffer, to the same bodies
+  -- the box names the listed nodes, checks to their session, and reads, into whatever buffer, to the same bodies
+  pub names : namesIn (boxWritten s nodes list out) ≡ listed s list
   pub checks : checkedBox (boxWritten s nodes list out) ≡ record { refusal = 0; session = sessionOf (s .family) (s .k) (s .len) (listed s list) }
   pub reads : (other : List ℕ) → length other ≡ nodesOf s * s .len → readBox (boxWritten s nodes list out) other ≡ checkedBox (boxWritten s nodes list out)
   pub bodies : (other : List ℕ) → length other ≡ nodesOf s * s .len → (i : ℕ) → i < length (listed s list)
@@ -66,7 +67,8 @@ ReadKeepsClaim = (bytes nodes : List ℕ) → readBox bytes nodes .refusal ≡ 0
 -- what was read from a box is written by a list: it is accepted, and has the length and the bytes of the box
 pub record WrittenAgain (bytes nodes list out : List ℕ) : Type 0 where
   pub answer : written (sessionIn bytes) (nodesRead bytes nodes) list out ≡ record { refusal = 0; length = length bytes; session = sessionIn bytes }
-  pub box : outWritten (sessionIn bytes) (nodesRead bytes nodes) list out ≡ bytes ++ drop (length bytes) out
+  pub rest : outWritten (sessionIn bytes) (nodesRead bytes nodes) list out ≡ bytes ++ drop (length bytes) out
+  pub box : boxWritten (sessionIn bytes) (nodesRead bytes nodes) list out ≡ bytes
 
 -- an accepted box, read and written again before any repair, has the same bytes, by an empty list and by its own. That byte 2, the
 -- low one of L, is a byte is all that is asked of the list of numbers
@@ -95,6 +97,8 @@ pub record BoxSession (bytes : List ℕ) : Type 0 where
   -- its session has the named nodes live, and is the one that the start with its family, k, L and node numbers gives
   pub is : checkedBox bytes ≡ record { refusal = 0; session = sessionIn bytes }
   pub start : checkedBox bytes ≡ started (familyIn bytes) (kIn bytes) (lengthIn bytes) (namesIn bytes)
+  -- a node not named is missing, and a named one is live
+  pub named : (j : ℕ) → j < 256 → (isLive (checkedBox bytes .session .live) j ≡ true) ↔ Named bytes j
 
 abbrev pub BoxStartClaim : Type 0
 BoxStartClaim = (bytes : List ℕ) → checkedBox bytes .refusal ≡ 0 → BoxSession bytes

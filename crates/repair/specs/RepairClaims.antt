@@ -23,6 +23,10 @@ abbrev pub StaysClaim : Type 0
 StaysClaim = (s : Session) → length (s .live) ≡ 256 → noStart s ≡ false
     → (nodes : List ℕ) (move : Move) → noStart (sessionAfter s nodes move) ≡ false
 
+-- a live node stays live
+abbrev pub LiveStaysClaim : Type 0
+LiveStaysClaim = (s : Session) (nodes : List ℕ) (move : Move) (j : ℕ) → isLive (s .live) j ≡ true → isLive (sessionAfter s nodes move .live) j ≡ true
+
 -- ---- run and the plan's steps
 
 -- a plan's step as a call
