@@ -1,12 +1,12 @@
 -- What the numbers given to a C function say of a family, where it has nodes.
 -- Assumes nothing.
-use mathlib.Core.Path.{_≡_, refl, sym, _∙_}
-use mathlib.Core.Bool.{Bool, true, false, cond, _&&_}
-use Prim.Native.Nat.{ℕ, _≤_}
+use mathlib.Core.Path.{_≡_}
+use mathlib.Core.Bool.{true}
+use Prim.Native.Nat.{ℕ}
 use native.Mathlib.Decide.{ℕ-discrete}
 use native.Mathlib.Omega.{arith}
-use borrow.Author.Tests.{eqb-true, eq-eqb, ne-eqb, leb-true}
-use lib.Dec.{eqb, leb}
+use borrow.Author.Tests.{ne-eqb, leb-true}
+use lib.Dec.{leb}
 use Rattle.base.proofs.Tests.{and-left, and-right}
 use Rattle.families.specs.Families.{familyOf, KInRange, IsNode, nodeCount}
 use Rattle.checks.specs.Checks.{firstMet}

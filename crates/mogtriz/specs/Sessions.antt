@@ -1,8 +1,7 @@
 -- Sessions as C has them, and what the C functions on sessions and boxes give.
 use Prim.Native.Nat.{ℕ}
-use mathlib.Core.Bool.{Bool, true, false, cond, _||_}
+use mathlib.Core.Bool.{Bool, false, cond, _||_}
 use mathlib.Core.List.{List, [], _∷_, map}
-use lib.ListN.{length}
 use lib.Dec.{eqb, ltb}
 use Rattle.checks.specs.Checks.{firstMet}
 use Rattle.boxes.specs.Box.{lengthIn, bodyChecks, bodyStart}
