@@ -1,3 +1,5 @@
 pub mod Exports
 pub mod Repairs
 pub mod Sessions
+pub mod Calls
+pub mod Claims

@@ -21,7 +21,7 @@ loop-again c =
     let l = c .before .before .loop in
     let m = c .before .before .before .args .t1 in
     let n = length-map m byteOf in
-    (omega arith, rw (l .inv .1) (fill-more (bytesOf m) _ (l .j) 0 (omega arith) (omega arith) (c .byte-of .ensures ∙ sym (List·getD-map byteOf m (l .j) false))))
+    (omega arith, rw (l .inv .1) (fill-more (bytesOf m) _ (l .j) (byteOf false) (omega arith) (omega arith) (c .byte-of .ensures ∙ sym (List·getD-map byteOf m (l .j) false))))
 
 returns : tie.Need-returns Inv-loop μ-loop
 returns c =

@@ -1,7 +1,6 @@
 -- `mogtriz::sessions::marks_of` meets its contract: before each turn the marks of the bytes before j are in place.
 -- Assumes nothing.
 use mathlib.Core.Path.{_≡_, refl, _∙_, sym}
-use mathlib.Core.Bool.{false}
 use Prim.Native.Nat.{_-_, _≤_}
 use lib.ListN.{length-map, List·getD-map}
 use Rattle.base.proofs.Fill.{filled, fill-more, fill-done}
@@ -21,7 +20,7 @@ loop-again c =
     let l = c .before .loop in
     let b = c .before .before .args .t1 in
     let n = length-map b markOf in
-    (omega arith, rw (l .inv .1) (fill-more (marksOf b) _ (l .j) false (omega arith) (omega arith) (sym (List·getD-map markOf b (l .j) 0))))
+    (omega arith, rw (l .inv .1) (fill-more (marksOf b) _ (l .j) (markOf 0) (omega arith) (omega arith) (sym (List·getD-map markOf b (l .j) 0))))
 
 returns : tie.Need-returns Inv-loop μ-loop
 returns c =

@@ -4,5 +4,11 @@ use borrow.Author.Needs.{needs}
 use Rattle.mogtriz.proofs.sessions.mogtriz_read.Statement.{statement}
 use Rattle.mogtriz.proofs.sessions.mogtriz_read.Tie as tie
 
+same-length : tie.Need-same-length
+same-length c = search needs
+
+returns : tie.Need-returns
+returns c = let r = c .before .before .before .read .ensures in (rw (c .for-c .ensures, r .0), r .1)
+
 pub mogtriz-read-spec : {M : Type 1} → statement M
-mogtriz-read-spec = tie.close (tie.spec (λ c κs. tt) (λ c κs. tt) (λ c. search needs) (λ c. let r = c .before .before .before .read .ensures in (rw (c .for-c .ensures, r .0), r .1)))
+mogtriz-read-spec = tie.close (search (tie.spec, same-length, returns, needs))

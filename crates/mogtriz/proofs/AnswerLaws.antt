@@ -1,0 +1,86 @@
+-- The session in an answer: what C gets for the session that it handed in, and what the session's own operations give for theirs.
+-- Assumes nothing.
+use mathlib.Core.Path.{_≡_, refl}
+use mathlib.Core.Bool.{Bool, true, false, cond}
+use mathlib.Core.List.{List}
+use mathlib.Core.Logic.{_⊎_, inl, inr}
+use Prim.Native.Nat.{ℕ}
+use native.Mathlib.Omega.{arith}
+use borrow.Author.Tests.{ne-eqb}
+use lib.Dec.{eqb}
+use Rattle.checks.specs.Checks.{firstMet}
+use Rattle.repair.specs.declared.Session.{Session}
+use Rattle.repair.specs.declared.Stepped.{Stepped}
+use Rattle.repair.specs.declared.Repairs.{Repairs}
+use Rattle.repair.specs.declared.Written.{Written}
+use Rattle.repair.specs.Step.{stepChecks, stepped}
+use Rattle.repair.specs.Repairs.{planChecks, planned, runChecks, ran}
+use Rattle.repair.specs.Boxed.{writeChecks, written}
+use Rattle.repair.specs.ReadOut.{readOut}
+use Rattle.mogtriz.specs.declared.sessions.MarkedSession.{MarkedSession}
+use Rattle.mogtriz.specs.declared.repairs.StepAnswer.{StepAnswer}
+use Rattle.mogtriz.specs.declared.repairs.RepairsAnswer.{RepairsAnswer}
+use Rattle.mogtriz.specs.Sessions.{someAbove1, sessionForC}
+use Rattle.mogtriz.specs.Repairs.{handedBack, steppedC, ranC}
+use Rattle.mogtriz.proofs.MarkLaws.{marks-low}
+
+-- what holds of both answers holds of the one that a test chooses
+pub either : {R : Type 0} (P : R → Type 0) {one other : R} (test : Bool) → P one → P other → P (cond test one other)
+either P true y n = y
+either P false y n = n
+
+-- ---- from C
+
+-- a number and a session, given for the session s
+pub record Back (s : MarkedSession) (refusal : ℕ) (given : MarkedSession) : Type 0 where
+  -- accepted, it has no byte above 1
+  pub marks : refusal ≡ 0 → someAbove1 (given .live) ≡ false
+  -- refused, it is s
+  pub kept : (refusal ≡ 0 → ⊥) → given ≡ s
+
+module _ (s : MarkedSession) where
+  thirteen : Back s 13 s
+  thirteen = record { marks = λ e. absurd (omega arith); kept = λ h. refl }
+
+  handed : (refusal : ℕ) (next : Session) → Back s refusal (handedBack s refusal next)
+  unfolding handedBack
+  handed refusal next = record { marks = λ e. rw e (marks-low (next .live)); kept = λ h. rw (ne-eqb refusal 0 h) }
+
+  pub step-back : (nodes : List ℕ) (j a b : ℕ) → Back s (steppedC s nodes j a b .refusal) (steppedC s nodes j a b .session)
+  unfolding steppedC
+  step-back nodes j a b = either (λ (r : StepAnswer). Back s (r .refusal) (r .session)) (someAbove1 (s .live)) thirteen (handed _ _)
+
+  pub run-back : (nodes : List ℕ) → Back s (ranC s nodes .refusal) (ranC s nodes .session)
+  unfolding ranC
+  run-back nodes = either (λ (r : RepairsAnswer). Back s (r .refusal) (r .session)) (someAbove1 (s .live)) thirteen (handed _ _)
+
+-- ---- the session's own operations
+
+module _ (s : Session) where
+  -- a step or a run that is refused gives the session that it got
+  pub step-done : (nodes : List ℕ) (j a b : ℕ) → (stepped s nodes j a b .refusal ≡ 0) ⊎ (stepped s nodes j a b .session ≡ s)
+  unfolding stepped
+  step-done nodes j a b = either (λ (r : Stepped). (r .refusal ≡ 0) ⊎ (r .session ≡ s)) (eqb (firstMet (stepChecks s nodes j a b)) 0) (inl refl) (inr refl)
+
+  pub run-done : (nodes : List ℕ) → (ran s nodes .refusal ≡ 0) ⊎ (ran s nodes .session ≡ s)
+  unfolding ran
+  run-done nodes = either (λ (r : Repairs). (r .refusal ≡ 0) ⊎ (r .session ≡ s)) (eqb (firstMet (runChecks s nodes)) 0) (inl refl) (inr refl)
+
+  -- so for C it does not matter which of the two is handed on
+  pub handed-on : (next : Session) (refusal : ℕ) → (refusal ≡ 0) ⊎ (next ≡ s) → handedBack (sessionForC s) refusal next ≡ sessionForC next
+  unfolding handedBack
+  handed-on next refusal (inl e) = rw e
+  handed-on next refusal (inr e) = rw e (either (λ (t : MarkedSession). t ≡ sessionForC s) (eqb refusal 0) refl refl)
+
+  -- plan, write and read out give it always
+  pub plan-kept : (out : List ℕ) → planned s out .session ≡ s
+  unfolding planned
+  plan-kept out = either (λ (r : Repairs). r .session ≡ s) (eqb (firstMet (planChecks s out)) 0) refl refl
+
+  pub write-kept : (nodes list out : List ℕ) → written s nodes list out .session ≡ s
+  unfolding written
+  write-kept nodes list out = either (λ (r : Written). r .session ≡ s) (eqb (firstMet (writeChecks s nodes list out)) 0) refl refl
+
+  pub read-out-kept : (nodes object : List ℕ) → readOut s nodes object .session ≡ s
+  unfolding readOut
+  read-out-kept nodes object = refl

@@ -1,0 +1,40 @@
+-- Lists of C's calls: steps and runs, each getting the session that the one before gave back.
+use Prim.Native.Nat.{ℕ}
+use mathlib.Core.List.{List, [], _∷_}
+use Rattle.repair.specs.Session.{started}
+use Rattle.repair.specs.Calls.{Move, step, run, Call}
+use Rattle.mogtriz.specs.declared.sessions.MarkedSession.{MarkedSession}
+use Rattle.mogtriz.specs.Sessions.{startedC}
+use Rattle.mogtriz.specs.Repairs.{steppedC, nodesSteppedC, ranC, nodesRanC}
+
+-- the session in the answer of a call on a nodes buffer
+abbrev pub sessionAfterC : MarkedSession → List ℕ → Move → MarkedSession
+sessionAfterC s nodes (step j a b) = steppedC s nodes j a b .session
+sessionAfterC s nodes run = ranC s nodes .session
+
+-- the nodes buffer after a call
+abbrev pub nodesAfterC : MarkedSession → List ℕ → Move → List ℕ
+nodesAfterC s nodes (step j a b) = nodesSteppedC s nodes j a b
+nodesAfterC s nodes run = nodesRanC s nodes
+
+-- ---- each call with its own nodes buffer
+
+-- the session after a list of calls
+unfoldable pub sessionAfterAllC : MarkedSession → List Call → MarkedSession
+sessionAfterAllC s [] = s
+sessionAfterAllC s (call ∷ calls) = sessionAfterAllC (sessionAfterC s (call .nodes) (call .move)) calls
+
+-- the session after a start and a list of calls
+abbrev pub lastSessionC : ℕ → ℕ → ℕ → List ℕ → List Call → MarkedSession
+lastSessionC family k L list calls = sessionAfterAllC (startedC (started family k L list) .session) calls
+
+-- ---- one nodes buffer, handed from call to call
+
+-- a session and its nodes buffer
+pub record HeldC : Type 0 where
+  pub session : MarkedSession
+  pub nodes : List ℕ
+
+unfoldable pub heldAfterC : MarkedSession → List ℕ → List Move → HeldC
+heldAfterC s nodes [] = record { session = s; nodes = nodes }
+heldAfterC s nodes (move ∷ moves) = heldAfterC (sessionAfterC s nodes move) (nodesAfterC s nodes move) moves

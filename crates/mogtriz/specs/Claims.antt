@@ -1,0 +1,135 @@
+-- What is proved of the C interface besides each function's own equations: a session handed to C and back is the same session,
+-- and the calls of C keep the promises of the library. proofs/Proved.antt and proofs/CallsProved.antt have the proofs.
+use mathlib.Core.Path.{_≡_}
+use mathlib.Core.Bool.{false, cond}
+use mathlib.Core.List.{List, _∷_, _++_}
+use Prim.Native.Nat.{ℕ, _*_, _≤_, _<_}
+use lib.ListN.{length, getD}
+use Rattle.repair.specs.declared.Session.{Session}
+use Rattle.repair.specs.declared.Started.{Started}
+use Rattle.repair.specs.Session.{started}
+use Rattle.repair.specs.Boxed.{written, outWritten}
+use Rattle.repair.specs.ReadOut.{readOut, objectOut}
+use Rattle.repair.specs.Step.{stepped, nodesStepped}
+use Rattle.repair.specs.Repairs.{planned, outPlanned, ran, nodesRan}
+use Rattle.repair.specs.Calls.{Move, run, Call, liveAfter}
+use Rattle.repair.specs.LeftOver.{isIn, LeftOver}
+use Rattle.repair.specs.RepairClaims.{LiveAreOwn}
+use Rattle.mogtriz.specs.declared.sessions.MarkedSession.{MarkedSession}
+use Rattle.mogtriz.specs.Sessions.{someAbove1, sessionForC, sessionOfC, startedC, writtenC, outWrittenC, readOutC, objectOutC}
+use Rattle.mogtriz.specs.Repairs.{steppedC, nodesSteppedC, plannedC, outPlannedC, ranC, nodesRanC}
+use Rattle.mogtriz.specs.Calls.{lastSessionC, heldAfterC}
+
+-- ---- a session handed to C and back
+
+abbrev pub ThereAndBackClaim : Type 0
+ThereAndBackClaim = (s : Session) → sessionOfC (sessionForC s) ≡ s
+
+-- and one of C's with no byte above 1, taken in and handed out again
+abbrev pub BackAndThereClaim : Type 0
+BackAndThereClaim = (s : MarkedSession) → someAbove1 (s .live) ≡ false → sessionForC (sessionOfC s) ≡ s
+
+-- ---- the session in an answer
+
+-- mogtriz_start, mogtriz_check and mogtriz_read give no byte above 1, refused or not
+abbrev pub StartedMarksClaim : Type 0
+StartedMarksClaim = (answer : Started) → someAbove1 (startedC answer .session .live) ≡ false
+
+-- of any session handed in
+pub record HandedBack (s : MarkedSession) : Type 0 where
+  -- a step or a run that is accepted gives no byte above 1
+  pub step-marks : (nodes : List ℕ) (j a b : ℕ) → steppedC s nodes j a b .refusal ≡ 0 → someAbove1 (steppedC s nodes j a b .session .live) ≡ false
+  pub run-marks : (nodes : List ℕ) → ranC s nodes .refusal ≡ 0 → someAbove1 (ranC s nodes .session .live) ≡ false
+  -- one that is refused gives the session as it was handed in, byte for byte
+  pub step-refused : (nodes : List ℕ) (j a b : ℕ) → (steppedC s nodes j a b .refusal ≡ 0 → ⊥) → steppedC s nodes j a b .session ≡ s
+  pub run-refused : (nodes : List ℕ) → (ranC s nodes .refusal ≡ 0 → ⊥) → ranC s nodes .session ≡ s
+  -- plan, write and read out give it so always
+  pub plan : (out : List ℕ) → plannedC s out .session ≡ s
+  pub write : (nodes list out : List ℕ) → writtenC s nodes list out .session ≡ s
+  pub read-out : (nodes object : List ℕ) → readOutC s nodes object .session ≡ s
+
+abbrev pub HandedBackClaim : Type 0
+HandedBackClaim = (s : MarkedSession) → HandedBack s
+
+-- ---- the calls agree
+
+-- of a session in C's form, each call gives C what the session's own operation gives, and leaves the same bytes
+pub record Agree (s : Session) : Type 0 where
+  -- mogtriz_step
+  pub step : (nodes : List ℕ) (j a b : ℕ) → steppedC (sessionForC s) nodes j a b
+      ≡ record { refusal = stepped s nodes j a b .refusal; session = sessionForC (stepped s nodes j a b .session) }
+  pub step-nodes : (nodes : List ℕ) (j a b : ℕ) → nodesSteppedC (sessionForC s) nodes j a b ≡ nodesStepped s nodes j a b
+  -- mogtriz_plan
+  pub plan : (out : List ℕ) → plannedC (sessionForC s) out
+      ≡ record {
+        refusal = planned s out .refusal;
+        steps = planned s out .steps;
+        rounds = planned s out .rounds;
+        left = planned s out .left;
+        session = sessionForC (planned s out .session);
+      }
+  pub plan-out : (out : List ℕ) → outPlannedC (sessionForC s) out ≡ outPlanned s out
+  -- mogtriz_run
+  pub run : (nodes : List ℕ) → ranC (sessionForC s) nodes
+      ≡ record {
+        refusal = ran s nodes .refusal;
+        steps = ran s nodes .steps;
+        rounds = ran s nodes .rounds;
+        left = ran s nodes .left;
+        session = sessionForC (ran s nodes .session);
+      }
+  pub run-nodes : (nodes : List ℕ) → nodesRanC (sessionForC s) nodes ≡ nodesRan s nodes
+  -- mogtriz_write
+  pub write : (nodes list out : List ℕ) → writtenC (sessionForC s) nodes list out
+      ≡ record {
+        refusal = written s nodes list out .refusal;
+        length = written s nodes list out .length;
+        session = sessionForC (written s nodes list out .session);
+      }
+  pub write-out : (nodes list out : List ℕ) → outWrittenC (sessionForC s) nodes list out ≡ outWritten s nodes list out
+  -- mogtriz_read_out
+  pub read-out : (nodes object : List ℕ) → readOutC (sessionForC s) nodes object
+      ≡ record {
+        refusal = readOut s nodes object .refusal;
+        block = readOut s nodes object .block;
+        session = sessionForC (readOut s nodes object .session);
+      }
+  pub read-out-object : (nodes object : List ℕ) → objectOutC (sessionForC s) nodes object ≡ objectOut s nodes object
+
+abbrev pub AgreeClaim : Type 0
+AgreeClaim = (s : Session) → Agree s
+
+-- ---- demand 3, for C
+
+-- of a start's family, k, L and list, a list of calls, and objects with blocks of M bytes
+pub record LeftOverC (family k L : ℕ) (list : List ℕ) (calls : List Call) (M : ℕ) : Type 0 where
+  -- demand 3 of the same start, calls and M. Its `missing-open`: when no missing node has a related pair with both nodes live, the
+  -- missing nodes are exactly the open ones. Its `count` and `open-nodes`: whether or not a pair is left, the number of open nodes
+  pub left-over : LeftOver family k L list calls M
+  -- a byte of the last session is 1 where its number is in live after the list, else 0
+  pub marks : (j : ℕ) → j < 256 → getD (lastSessionC family k L list calls .live) j 0 ≡ cond (isIn (liveAfter family k L list calls) j) 1 0
+  -- the number of open nodes is the nodes left of every accepted mogtriz_run in the list
+  pub runs : (earlier : List Call) (nodes : List ℕ) (later : List Call) → calls ≡ earlier ++ (record { nodes = nodes; move = run } ∷ later)
+      → ranC (lastSessionC family k L list earlier) nodes .refusal ≡ 0 → ranC (lastSessionC family k L list earlier) nodes .left ≡ left-over .count
+  -- and of every accepted mogtriz_plan made after it
+  pub plans : (out : List ℕ) → plannedC (lastSessionC family k L list calls) out .refusal ≡ 0
+      → plannedC (lastSessionC family k L list calls) out .left ≡ left-over .count
+
+-- for every start that mogtriz_start accepts, every list of calls, refused ones included, and every block length of 1 or more
+abbrev pub Demand3C : Type 0
+Demand3C = (family k L : ℕ) (list : List ℕ) → startedC (started family k L list) .refusal ≡ 0
+    → (calls : List Call) (M : ℕ) → 1 ≤ M → LeftOverC family k L list calls M
+
+-- ---- the object's own blocks (demand 2), for C
+
+-- once session and buffer have gone through a list of steps and runs, every live block is the object's, and what mogtriz_read_out
+-- leaves, where it is accepted, is the object
+pub record OwnC (object : List ℕ) (s : MarkedSession) (nodes : List ℕ) (moves : List Move) : Type 0 where
+  pub live : LiveAreOwn object (sessionOfC (heldAfterC s nodes moves .session)) (heldAfterC s nodes moves .nodes)
+  pub out : (result : List ℕ) → readOutC (heldAfterC s nodes moves .session) (heldAfterC s nodes moves .nodes) result .refusal ≡ 0
+      → objectOutC (heldAfterC s nodes moves .session) (heldAfterC s nodes moves .nodes) result ≡ object
+
+-- a session with a byte above 1 is refused by every call, so the bytes may be any
+abbrev pub OwnCClaim : Type 0
+OwnCClaim = (object : List ℕ) (s : MarkedSession) (nodes : List ℕ) → length (s .live) ≡ 256 → length object ≡ s .k * s .len
+    → LiveAreOwn object (sessionOfC s) nodes → (moves : List Move) → OwnC object s nodes moves
