@@ -42,8 +42,10 @@ demand-3-c family k L list e calls M h =
     let last = lastSession family k L list in
     let agrees = last-agrees family k L list in
     record {
-      left-over = own;
       marks = λ j l. rw (agrees calls, byte-at (last calls .live) j, own .marks j l);
+      missing-open = own .missing-open;
+      count = own .count;
+      open-nodes = own .open-nodes;
       runs = λ earlier nodes later is. rw (agrees earlier, agree-claim (last earlier) .run nodes) (own .runs earlier nodes later is);
       plans = λ out. rw (agrees calls, agree-claim (last calls) .plan out) (own .plans out);
     }

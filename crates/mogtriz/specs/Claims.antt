@@ -3,8 +3,12 @@
 use mathlib.Core.Path.{_≡_}
 use mathlib.Core.Bool.{false, cond}
 use mathlib.Core.List.{List, _∷_, _++_}
+use mathlib.Core.Logic.{_↔_}
 use Prim.Native.Nat.{ℕ, _*_, _≤_, _<_}
 use lib.ListN.{length, getD}
+use Rattle.families.specs.Families.{familyOf, IsNode}
+use Rattle.planning.specs.Pairs.{NoPairLeft}
+use Rattle.leftover.specs.Open.{Open, OpenCount}
 use Rattle.repair.specs.declared.Session.{Session}
 use Rattle.repair.specs.declared.Started.{Started}
 use Rattle.repair.specs.Session.{started}
@@ -13,7 +17,7 @@ use Rattle.repair.specs.ReadOut.{readOut, objectOut}
 use Rattle.repair.specs.Step.{stepped, nodesStepped}
 use Rattle.repair.specs.Repairs.{planned, outPlanned, ran, nodesRan}
 use Rattle.repair.specs.Calls.{Move, run, Call, liveAfter}
-use Rattle.repair.specs.LeftOver.{isIn, LeftOver}
+use Rattle.repair.specs.LeftOver.{isIn}
 use Rattle.repair.specs.RepairClaims.{LiveAreOwn}
 use Rattle.mogtriz.specs.declared.sessions.MarkedSession.{MarkedSession}
 use Rattle.mogtriz.specs.Sessions.{someAbove1, sessionForC, sessionOfC, startedC, writtenC, outWrittenC, readOutC, objectOutC}
@@ -103,17 +107,20 @@ AgreeClaim = (s : Session) → Agree s
 
 -- of a start's family, k, L and list, a list of calls, and objects with blocks of M bytes
 pub record LeftOverC (family k L : ℕ) (list : List ℕ) (calls : List Call) (M : ℕ) : Type 0 where
-  -- demand 3 of the same start, calls and M. Its `missing-open`: when no missing node has a related pair with both nodes live, the
-  -- missing nodes are exactly the open ones. Its `count` and `open-nodes`: whether or not a pair is left, the number of open nodes
-  pub left-over : LeftOver family k L list calls M
   -- a byte of the last session is 1 where its number is in live after the list, else 0
   pub marks : (j : ℕ) → j < 256 → getD (lastSessionC family k L list calls .live) j 0 ≡ cond (isIn (liveAfter family k L list calls) j) 1 0
-  -- the number of open nodes is the nodes left of every accepted mogtriz_run in the list
+  -- when no missing node has a related pair with both nodes live, the missing nodes are exactly the open ones
+  pub missing-open : NoPairLeft (familyOf family) k (isIn (liveAfter family k L list calls))
+      → (j : ℕ) → IsNode (familyOf family) k j → (isIn (liveAfter family k L list calls) j ≡ false) ↔ Open (familyOf family) k M list j
+  -- whether or not a pair is left, there is a number of open nodes
+  pub count : ℕ
+  pub open-nodes : OpenCount (familyOf family) k M list count
+  -- it is the nodes left of every accepted mogtriz_run in the list
   pub runs : (earlier : List Call) (nodes : List ℕ) (later : List Call) → calls ≡ earlier ++ (record { nodes = nodes; move = run } ∷ later)
-      → ranC (lastSessionC family k L list earlier) nodes .refusal ≡ 0 → ranC (lastSessionC family k L list earlier) nodes .left ≡ left-over .count
+      → ranC (lastSessionC family k L list earlier) nodes .refusal ≡ 0 → ranC (lastSessionC family k L list earlier) nodes .left ≡ count
   -- and of every accepted mogtriz_plan made after it
   pub plans : (out : List ℕ) → plannedC (lastSessionC family k L list calls) out .refusal ≡ 0
-      → plannedC (lastSessionC family k L list calls) out .left ≡ left-over .count
+      → plannedC (lastSessionC family k L list calls) out .left ≡ count
 
 -- for every start that mogtriz_start accepts, every list of calls, refused ones included, and every block length of 1 or more
 abbrev pub Demand3C : Type 0
