@@ -1,44 +1,35 @@
--- The claims of specs/Claims.antt about lists of C's calls: demand 3, and the object's own blocks.
+-- The claims of specs/Claims.antt about lists of C's calls: demand 3, the object's own blocks, and the whole way.
 -- Assumes nothing.
-use mathlib.Core.Path.{_≡_, refl, sym, _∙_, subst}
-use mathlib.Core.Bool.{Bool, true, false, cond}
+use mathlib.Core.Path.{_≡_, refl, sym, ap, ap₂, _∙_, subst}
+use mathlib.Core.Bool.{Bool, true, false}
 use mathlib.Core.List.{List}
 use Prim.Native.Nat.{ℕ}
 use native.Mathlib.Omega.{arith}
-use borrow.Author.Tests.{eqb-true}
-use lib.Dec.{eqb}
-use lib.ListN.{length-map}
-use Rattle.checks.specs.Checks.{firstMet}
+use lib.ListN.{length, take, drop, length-map}
+use lib.Seq.{take-append-seam}
 use Rattle.repair.specs.declared.Session.{Session}
-use Rattle.repair.specs.Session.{sessionOf, refusedStart, startChecks, started}
+use Rattle.repair.specs.declared.Written.{Written}
+use Rattle.repair.specs.Boxed.{readBox, nodesRead, written}
 use Rattle.repair.specs.ReadOut.{readOut}
 use Rattle.repair.specs.Calls.{Move, heldAfter}
 use Rattle.repair.specs.LeftOver.{lastSession}
 use Rattle.repair.specs.RepairClaims.{LiveAreOwn, OwnClaims}
+use Rattle.repair.specs.WholeWay.{Way, startOf, nodesEncoded, boxAway}
+use Rattle.repair.proofs.Proved.{write-read-claim}
 use Rattle.repair.proofs.LeftOverProved.{demand-3}
 use Rattle.repair.proofs.RepairsProved.{own-claim}
+use Rattle.repair.proofs.WholeWayProved.{whole-way-claim}
 use Rattle.mogtriz.specs.declared.sessions.MarkedSession.{MarkedSession}
+use Rattle.mogtriz.specs.declared.sessions.WriteAnswer.{WriteAnswer}
 use Rattle.mogtriz.specs.Sessions.{markOf, someAbove1, sessionForC, sessionOfC}
-use Rattle.mogtriz.specs.Claims.{Demand3C, OwnC, OwnCClaim}
+use Rattle.mogtriz.specs.Claims.{Demand3C, OwnC, OwnCClaim, boxAwayC, WholeWayCClaim}
 use Rattle.mogtriz.proofs.MarkLaws.{byte-at}
 use Rattle.mogtriz.proofs.Proved.{there-and-back, back-and-there, agree-claim}
 use Rattle.mogtriz.proofs.CallLaws.{last-agrees, held-agrees, held-stays, not-read}
 
--- a start that is accepted has passed its checks
-start-passes : (family k L : ℕ) (list : List ℕ) → started family k L list .refusal ≡ 0 → firstMet (startChecks family k L list) ≡ 0
-unfolding started
-start-passes family k L list e = go (eqb number 0) refl e
-  where
-    number : ℕ
-    number = firstMet (startChecks family k L list)
-
-    go : (met : Bool) → eqb number 0 ≡ met → cond met (record { refusal = 0; session = sessionOf family k L list }) (refusedStart number) .refusal ≡ 0 → number ≡ 0
-    go true t h = eqb-true number 0 t
-    go false t h = h
-
 pub demand-3-c : Demand3C
 demand-3-c family k L list e calls M h =
-    let own = demand-3 family k L list (start-passes family k L list e) calls M h in
+    let own = demand-3 family k L list e calls M h in
     let last = lastSession family k L list in
     let agrees = last-agrees family k L list in
     record {
@@ -71,3 +62,20 @@ own-c-claim object s nodes marks size live moves = go (someAbove1 (s .live)) ref
     go false e =
         subst (λ (t : MarkedSession). OwnC object t nodes moves) (back-and-there s e)
         (own-agrees object (sessionOfC s) nodes moves (own-claim object (sessionOfC s) nodes (length-map (s .live) markOf ∙ marks) size live moves))
+
+-- the box that C finds at the start of its destination is the box that is put away
+box-agrees : (way : Way) → written (startOf way .session) (nodesEncoded way) (way .list) (way .out) .refusal ≡ 0 → boxAwayC way ≡ boxAway way
+box-agrees way h =
+    let s = startOf way .session in
+    let a = agree-claim s in
+    let c = write-read-claim s (nodesEncoded way) (way .list) (way .out) h in
+    ap₂ (λ (r : WriteAnswer) (b : List ℕ). take (r .length) b) (a .write (nodesEncoded way) (way .list) (way .out)) (a .write-out (nodesEncoded way) (way .list) (way .out))
+    ∙ ap₂ (λ (r : Written) (b : List ℕ). take (r .length) b) (c .answer) (c .rest)
+    ∙ take-append-seam (boxAway way) (drop (length (boxAway way)) (way .out))
+
+pub whole-way-c-claim : WholeWayCClaim
+whole-way-c-claim way on moves =
+    let writes = sym (ap (λ (r : WriteAnswer). r .refusal) (agree-claim (startOf way .session) .write (nodesEncoded way) (way .list) (way .out))) ∙ on .write in
+    let same = box-agrees way writes in
+    let whole = whole-way-claim way (record { encode = on .encode; start = on .start; write = writes; read = rw same at (on .read) }) moves in
+    rw same (own-agrees (way .object) (readBox (boxAway way) (way .other) .session) (nodesRead (boxAway way) (way .other)) moves (record { live = whole .live; out = whole .out }))

@@ -5,20 +5,22 @@ use mathlib.Core.Bool.{false, cond}
 use mathlib.Core.List.{List, _∷_, _++_}
 use mathlib.Core.Logic.{_↔_}
 use Prim.Native.Nat.{ℕ, _*_, _≤_, _<_}
-use lib.ListN.{length, getD}
+use lib.ListN.{length, getD, take}
 use Rattle.families.specs.Families.{familyOf, IsNode}
+use Rattle.encoding.specs.Encode.{encodeAnswer}
 use Rattle.planning.specs.Pairs.{NoPairLeft}
 use Rattle.leftover.specs.Open.{Open, OpenCount}
 use Rattle.repair.specs.declared.Session.{Session}
 use Rattle.repair.specs.declared.Started.{Started}
 use Rattle.repair.specs.Session.{started}
-use Rattle.repair.specs.Boxed.{written, outWritten}
+use Rattle.repair.specs.Boxed.{readBox, nodesRead, written, outWritten}
 use Rattle.repair.specs.ReadOut.{readOut, objectOut}
 use Rattle.repair.specs.Step.{stepped, nodesStepped}
 use Rattle.repair.specs.Repairs.{planned, outPlanned, ran, nodesRan}
 use Rattle.repair.specs.Calls.{Move, run, Call, liveAfter}
 use Rattle.repair.specs.LeftOver.{isIn}
 use Rattle.repair.specs.RepairClaims.{LiveAreOwn}
+use Rattle.repair.specs.WholeWay.{Way, startOf, nodesEncoded}
 use Rattle.mogtriz.specs.declared.sessions.MarkedSession.{MarkedSession}
 use Rattle.mogtriz.specs.Sessions.{someAbove1, sessionForC, sessionOfC, startedC, writtenC, outWrittenC, readOutC, objectOutC}
 use Rattle.mogtriz.specs.Repairs.{steppedC, nodesSteppedC, plannedC, outPlannedC, ranC, nodesRanC}
@@ -140,3 +142,26 @@ pub record OwnC (object : List ℕ) (s : MarkedSession) (nodes : List ℕ) (move
 abbrev pub OwnCClaim : Type 0
 OwnCClaim = (object : List ℕ) (s : MarkedSession) (nodes : List ℕ) → length (s .live) ≡ 256 → length object ≡ s .k * s .len
     → LiveAreOwn object (sessionOfC s) nodes → (moves : List Move) → OwnC object s nodes moves
+
+-- ---- the whole way, for C
+
+-- the session that mogtriz_start gives for the object's nodes
+abbrev pub startOfC : Way → MarkedSession
+startOfC way = startedC (startOf way) .session
+
+-- the box that mogtriz_write leaves at the start of its destination, by the length that it gives
+abbrev pub boxAwayC : Way → List ℕ
+boxAwayC way = take (writtenC (startOfC way) (nodesEncoded way) (way .list) (way .out) .length) (outWrittenC (startOfC way) (nodesEncoded way) (way .list) (way .out))
+
+-- mogtriz_encode, mogtriz_start, mogtriz_write and mogtriz_read are accepted
+pub record OnTheWayC (way : Way) : Type 0 where
+  pub encode : encodeAnswer (way .family) (way .k) (way .len) (way .object) (way .nodes) ≡ 0
+  pub start : startedC (startOf way) .refusal ≡ 0
+  pub write : writtenC (startOfC way) (nodesEncoded way) (way .list) (way .out) .refusal ≡ 0
+  pub read : startedC (readBox (boxAwayC way) (way .other)) .refusal ≡ 0
+
+-- the object encoded, written, read into a buffer of any content, taken through any list of mogtriz_step and mogtriz_run: what
+-- mogtriz_read_out then leaves, where it is accepted, is the object
+abbrev pub WholeWayCClaim : Type 0
+WholeWayCClaim = (way : Way) → OnTheWayC way → (moves : List Move)
+    → OwnC (way .object) (startedC (readBox (boxAwayC way) (way .other)) .session) (nodesRead (boxAwayC way) (way .other)) moves

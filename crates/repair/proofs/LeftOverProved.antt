@@ -17,6 +17,7 @@ use Rattle.repair.specs.declared.Session.{Session}
 use Rattle.repair.specs.Session.{sessionOf}
 use Rattle.repair.specs.Calls.{Call, sessionAfterAll, liveAfter}
 use Rattle.repair.specs.LeftOver.{isIn, lastSession, LeftOver, Demand3, SameCount}
+use Rattle.repair.proofs.Accepted.{start-accepted}
 use Rattle.repair.proofs.LeftOverLaws.{Grown, grown-start, grown-ended, is-in, leftOf, left-open, left-same}
 use Rattle.repair.proofs.CallLaws.{FromStart, from-start, ran-left, planned-left, calls-session, calls-live}
 
@@ -64,11 +65,11 @@ module _ (family k L : ℕ) (list : List ℕ) (start : FromStart family k L list
       }
 
 pub demand-3 : Demand3
-demand-3 family k L list e = left-over family k L list (from-start family k L list e)
+demand-3 family k L list e = left-over family k L list (from-start family k L list (start-accepted family k L list e))
 
 pub same-count : SameCount
 same-count family k L list e M N c d m n p q =
-    let start = from-start family k L list e in
+    let start = from-start family k L list (start-accepted family k L list e) in
     let number : ℕ = leftOf (familyOf family) k list in
     one-count (familyOf family) k M list c number p (open-first family k L list start M m)
     ∙ sym (one-count (familyOf family) k N list d number q (open-first family k L list start N n))

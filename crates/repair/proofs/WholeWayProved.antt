@@ -162,7 +162,7 @@ module _ (family k L : ℕ) (list : List ℕ) (h : started family k L list .refu
   -- so no pair is left after them, and demand 3 says which nodes are missing
   module _ (M : ℕ) (some : 1 ≤ M) where
     over : LeftOver family k L list all M
-    over = demand-3 family k L list (start-accepted family k L list h) all M some
+    over = demand-3 family k L list h all M some
 
     marks : (j : ℕ) → IsNode f k j → isLive (ran (lastSession family k L list calls) nodes .session .live) j ≡ isIn now j
     marks j n = rw last-is at (over .marks j (omega (arith, n .last, few f k (start .range))))

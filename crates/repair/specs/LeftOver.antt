@@ -7,12 +7,11 @@ use Prim.Native.Nat.{ℕ, _≤_, _<_}
 use lib.Dec.{ltb}
 use lib.ListN.{length}
 use Rattle.families.specs.Families.{familyOf, IsNode}
-use Rattle.checks.specs.Checks.{firstMet}
 use Rattle.lists.specs.Lists.{placeIn, isLive}
 use Rattle.planning.specs.Pairs.{NoPairLeft}
 use Rattle.leftover.specs.Open.{Open, OpenCount}
 use Rattle.repair.specs.declared.Session.{Session}
-use Rattle.repair.specs.Session.{startChecks, started}
+use Rattle.repair.specs.Session.{started}
 use Rattle.repair.specs.Repairs.{planned, ran}
 use Rattle.repair.specs.Calls.{Call, run, sessionAfterAll, liveAfter}
 
@@ -42,10 +41,10 @@ pub record LeftOver (family k L : ℕ) (list : List ℕ) (calls : List Call) (M 
 
 -- Demand 3: for every accepted start, every list of calls, refused ones included, and every block length of 1 or more
 abbrev pub Demand3 : Type 0
-Demand3 = (family k L : ℕ) (list : List ℕ) → firstMet (startChecks family k L list) ≡ 0
+Demand3 = (family k L : ℕ) (list : List ℕ) → started family k L list .refusal ≡ 0
     → (calls : List Call) (M : ℕ) → 1 ≤ M → LeftOver family k L list calls M
 
 -- the number of open nodes is the same at every block length
 abbrev pub SameCount : Type 0
-SameCount = (family k L : ℕ) (list : List ℕ) → firstMet (startChecks family k L list) ≡ 0
+SameCount = (family k L : ℕ) (list : List ℕ) → started family k L list .refusal ≡ 0
     → (M N c d : ℕ) → 1 ≤ M → 1 ≤ N → OpenCount (familyOf family) k M list c → OpenCount (familyOf family) k N list d → c ≡ d
