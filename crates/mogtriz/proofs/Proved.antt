@@ -1,12 +1,17 @@
 -- The claims of specs/Claims.antt: a session handed to C and back, the session in an answer, and the calls that agree.
 -- Assumes nothing.
 use mathlib.Core.Path.{_≡_, refl}
+use mathlib.Core.Bool.{Bool, true, false}
+use lib.Dec.{eqb}
+use lib.ListN.{take, drop}
+use Rattle.checks.specs.Checks.{firstMet}
+use Rattle.boxes.specs.Box.{bodyChecks, bodyOf}
 use Rattle.mogtriz.specs.declared.sessions.WriteAnswer.{WriteAnswer}
 use Rattle.mogtriz.specs.declared.sessions.ReadOutAnswer.{ReadOutAnswer}
 use Rattle.mogtriz.specs.declared.repairs.RepairsAnswer.{RepairsAnswer}
-use Rattle.mogtriz.specs.Sessions.{someAbove1, writtenC, outWrittenC, readOutC, objectOutC}
+use Rattle.mogtriz.specs.Sessions.{someAbove1, writtenC, outWrittenC, readOutC, objectOutC, partIn}
 use Rattle.mogtriz.specs.Repairs.{steppedC, nodesSteppedC, plannedC, outPlannedC, ranC, nodesRanC}
-use Rattle.mogtriz.specs.Claims.{ThereAndBackClaim, BackAndThereClaim, StartedMarksClaim, HandedBackClaim, AgreeClaim}
+use Rattle.mogtriz.specs.Claims.{ThereAndBackClaim, BackAndThereClaim, StartedMarksClaim, HandedBackClaim, PartClaim, AgreeClaim}
 use Rattle.mogtriz.proofs.MarkLaws.{marks-back, bytes-back, marks-low}
 use Rattle.mogtriz.proofs.AnswerLaws.{either, step-back, run-back, step-done, run-done, handed-on, plan-kept, write-kept, read-out-kept}
 
@@ -31,6 +36,14 @@ handed-back-claim s =
       write = λ nodes list out. either (λ (r : WriteAnswer). r .session ≡ s) (someAbove1 (s .live)) refl refl;
       read-out = λ nodes object. either (λ (r : ReadOutAnswer). r .session ≡ s) (someAbove1 (s .live)) refl refl;
     }
+
+pub part-claim : PartClaim
+unfolding partIn bodyOf
+part-claim bytes j = go (eqb (firstMet (bodyChecks bytes j)) 0) refl
+  where
+    go : (met : Bool) → eqb (firstMet (bodyChecks bytes j)) 0 ≡ met → take (partIn bytes j .length) (drop (partIn bytes j .from) bytes) ≡ bodyOf bytes j
+    go true e = rw e
+    go false e = rw e
 
 -- a session in C's form has no byte above 1, and is the session again once it is taken in
 pub agree-claim : AgreeClaim

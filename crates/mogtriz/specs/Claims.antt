@@ -5,9 +5,10 @@ use mathlib.Core.Bool.{false, cond}
 use mathlib.Core.List.{List, _∷_, _++_}
 use mathlib.Core.Logic.{_↔_}
 use Prim.Native.Nat.{ℕ, _*_, _≤_, _<_}
-use lib.ListN.{length, getD, take}
+use lib.ListN.{length, getD, take, drop}
 use Rattle.families.specs.Families.{familyOf, IsNode}
 use Rattle.encoding.specs.Encode.{encodeAnswer}
+use Rattle.boxes.specs.Box.{bodyOf}
 use Rattle.planning.specs.Pairs.{NoPairLeft}
 use Rattle.leftover.specs.Open.{Open, OpenCount}
 use Rattle.repair.specs.declared.Session.{Session}
@@ -22,7 +23,7 @@ use Rattle.repair.specs.LeftOver.{isIn}
 use Rattle.repair.specs.RepairClaims.{LiveAreOwn}
 use Rattle.repair.specs.WholeWay.{Way, startOf, nodesEncoded}
 use Rattle.mogtriz.specs.declared.sessions.MarkedSession.{MarkedSession}
-use Rattle.mogtriz.specs.Sessions.{someAbove1, sessionForC, sessionOfC, startedC, writtenC, outWrittenC, readOutC, objectOutC}
+use Rattle.mogtriz.specs.Sessions.{someAbove1, sessionForC, sessionOfC, startedC, writtenC, outWrittenC, readOutC, objectOutC, partIn}
 use Rattle.mogtriz.specs.Repairs.{steppedC, nodesSteppedC, plannedC, outPlannedC, ranC, nodesRanC}
 use Rattle.mogtriz.specs.Calls.{lastSessionC, heldAfterC}
 
@@ -104,6 +105,12 @@ pub record Agree (s : Session) : Type 0 where
 
 abbrev pub AgreeClaim : Type 0
 AgreeClaim = (s : Session) → Agree s
+
+-- ---- the body of a node
+
+-- the part of the box that mogtriz_body tells is the body: none where it is refused
+abbrev pub PartClaim : Type 0
+PartClaim = (bytes : List ℕ) (j : ℕ) → take (partIn bytes j .length) (drop (partIn bytes j .from) bytes) ≡ bodyOf bytes j
 
 -- ---- demand 3, for C
 

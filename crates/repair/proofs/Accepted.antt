@@ -14,7 +14,7 @@ use Rattle.repair.specs.declared.Written.{Written}
 use Rattle.repair.specs.declared.Repairs.{Repairs}
 use Rattle.repair.specs.Session.{refusedStart, startChecks, started}
 use Rattle.repair.specs.Boxed.{checkedBox, readChecks, readBox, writeChecks, written}
-use Rattle.repair.specs.Repairs.{refusedRepairs, runChecks, ran}
+use Rattle.repair.specs.Repairs.{refusedRepairs, planChecks, planned, runChecks, ran}
 
 accepted-answer : {R : Type 0} (get : R → ℕ) (done refused : R) (r : ℕ) → get refused ≡ r → get (cond (eqb r 0) done refused) ≡ 0 → r ≡ 0
 accepted-answer get done refused r e h = go (eqb r 0) refl h
@@ -39,6 +39,10 @@ pub write-accepted : (s : Session) (nodes list out : List ℕ) → written s nod
 unfolding written
 write-accepted s nodes list out h =
     accepted-answer (λ (r : Written). r .refusal) _ (record { refusal = firstMet (writeChecks s nodes list out); length = 0; session = s }) _ refl h
+
+pub plan-accepted : (s : Session) (out : List ℕ) → planned s out .refusal ≡ 0 → firstMet (planChecks s out) ≡ 0
+unfolding planned
+plan-accepted s out h = accepted-answer (λ (r : Repairs). r .refusal) _ (refusedRepairs s (firstMet (planChecks s out))) _ refl h
 
 pub run-accepted : (s : Session) (nodes : List ℕ) → ran s nodes .refusal ≡ 0 → firstMet (runChecks s nodes) ≡ 0
 unfolding ran

@@ -14,3 +14,4 @@ pub mod CallLaws
 pub mod LeftOverProved
 pub mod FitsLaws
 pub mod WholeWayProved
+pub mod RefusalsProved

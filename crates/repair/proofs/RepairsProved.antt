@@ -1,21 +1,23 @@
 -- The claims of specs/RepairClaims.antt.
 -- Assumes nothing.
 use mathlib.Core.Path.{_≡_, sym, _∙_, subst}
-use lib.ListN.{length}
+use Prim.Native.Nat.{_*_}
+use lib.ListN.{length, drop}
 use Rattle.families.specs.Families.{familyOf}
 use Rattle.checks.specs.Checks.{firstMet}
 use Rattle.lists.specs.Lists.{isLive}
 use Rattle.lists.proofs.Laws.{length-setLive}
 use Rattle.planning.specs.Pairs.{NoPairLeft}
 use Rattle.planning.specs.Plan.{repairedNodes, nodesLeft}
+use Rattle.planning.proofs.CarryLaws.{steps-back}
 use Rattle.planning.proofs.Proved.{plan-claim}
 use Rattle.repair.specs.declared.Session.{Session}
 use Rattle.repair.specs.Session.{nodesOf}
 use Rattle.repair.specs.ReadOut.{readOut}
-use Rattle.repair.specs.Repairs.{planIn, runChecks, ran}
+use Rattle.repair.specs.Repairs.{planIn, planned, outPlanned, runChecks, ran}
 use Rattle.repair.specs.Calls.{step, run, heldAfter}
-use Rattle.repair.specs.RepairClaims.{StaysClaim, LiveStaysClaim, RunIsStepsClaim, RunEndsClaim, PlacesKeptClaim, LiveKeptClaim, RunAgainClaim, OwnClaim}
-use Rattle.repair.proofs.Accepted.{run-accepted}
+use Rattle.repair.specs.RepairClaims.{StaysClaim, LiveStaysClaim, PlanWritesClaim, RunIsStepsClaim, RunEndsClaim, PlacesKeptClaim, LiveKeptClaim, RunAgainClaim, OwnClaim}
+use Rattle.repair.proofs.Accepted.{plan-accepted, run-accepted}
 use Rattle.repair.proofs.StartLaws.{nodes-0}
 use Rattle.repair.proofs.CallLaws.{ran-left}
 use Rattle.repair.proofs.OwnLaws.{stays-stepped, stays-ran, stepped-keeps, ran-keeps, run-known, session-ran, ran-sized, run-steps, run-keeps-left, run-keeps-live, quiet-answer, quiet-nodes, OwnHeld, own-moves, own-out}
@@ -27,6 +29,10 @@ stays-claim s size starts nodes run = stays-ran s starts nodes size
 pub live-stays : LiveStaysClaim
 live-stays s nodes (step j a b) i l = stepped-keeps s nodes j a b i l
 live-stays s nodes run i l = ran-keeps s nodes i l
+
+pub plan-writes : PlanWritesClaim
+unfolding planned outPlanned
+plan-writes s out h = let e = plan-accepted s out h in rw e (steps-back (planIn s) (drop (4 * length (planIn s)) out))
 
 pub run-is-steps : RunIsStepsClaim
 run-is-steps s size nodes h = run-steps s nodes (run-accepted s nodes h) size

@@ -7,4 +7,5 @@ pub mod Calls
 pub mod LeftOver
 pub mod Claims
 pub mod RepairClaims
+pub mod Refusals
 pub mod WholeWay

@@ -10,9 +10,10 @@ use Rattle.encoding.specs.Matrix.{nodeBlock}
 use Rattle.lists.specs.Lists.{isLive}
 use Rattle.planning.specs.Pairs.{NoPairLeft}
 use Rattle.planning.specs.Plan.{Step}
+use Rattle.planning.specs.Made.{stepsIn}
 use Rattle.repair.specs.declared.Session.{Session}
 use Rattle.repair.specs.Session.{nodesOf, noStart}
-use Rattle.repair.specs.Repairs.{planIn, ran, nodesRan}
+use Rattle.repair.specs.Repairs.{planIn, planned, outPlanned, ran, nodesRan}
 use Rattle.repair.specs.ReadOut.{readOut, objectOut}
 use Rattle.repair.specs.Calls.{Move, step, sessionAfter, heldAfter}
 
@@ -32,6 +33,10 @@ LiveStaysClaim = (s : Session) (nodes : List ℕ) (move : Move) (j : ℕ) → is
 -- a plan's step as a call
 abbrev pub asMove : Step → Move
 asMove made = step (made .node) (made .smaller) (made .larger)
+
+-- what an accepted plan writes, read four bytes a step, is the session's plan
+abbrev pub PlanWritesClaim : Type 0
+PlanWritesClaim = (s : Session) (out : List ℕ) → planned s out .refusal ≡ 0 → stepsIn (outPlanned s out) (planned s out .steps) ≡ planIn s
 
 -- an accepted run is the plan's steps made one after the other
 abbrev pub RunIsStepsClaim : Type 0

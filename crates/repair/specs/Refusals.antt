@@ -1,0 +1,45 @@
+-- A call that is turned away (demand 1): it gives its number and zeros, the session as handed in, and no byte is written;
+-- proofs/RefusalsProved.antt has the proof.
+use mathlib.Core.Path.{_≡_}
+use mathlib.Core.Bool.{cond}
+use mathlib.Core.List.{List, []}
+use Prim.Native.Nat.{ℕ}
+use lib.Dec.{eqb}
+use Rattle.checks.specs.Checks.{firstMet}
+use Rattle.encoding.specs.Encode.{encodeAnswer, encoded}
+use Rattle.boxes.specs.Box.{bodyChecks, bodyOf}
+use Rattle.repair.specs.declared.Session.{Session}
+use Rattle.repair.specs.Session.{refusedStart, started}
+use Rattle.repair.specs.Boxed.{checkedBox, readBox, nodesRead, written, outWritten}
+use Rattle.repair.specs.ReadOut.{missingIn, readOut, objectOut}
+use Rattle.repair.specs.Step.{stepped, nodesStepped}
+use Rattle.repair.specs.Repairs.{refusedRepairs, planned, outPlanned, ran, nodesRan}
+
+-- the number is a refusal's
+abbrev pub Refused : ℕ → Type 0
+Refused number = number ≡ 0 → ⊥
+
+pub record RefusalClaim : Type 0 where
+  -- encode leaves the nodes buffer
+  pub encode : (family k L : ℕ) (object nodes : List ℕ) → Refused (encodeAnswer family k L object nodes) → encoded family k L object nodes ≡ nodes
+  -- a start, a check and a read give a session of zeros with every mark missing, and a read leaves the nodes buffer
+  pub start : (family k L : ℕ) (list : List ℕ) → Refused (started family k L list .refusal) → started family k L list ≡ refusedStart (started family k L list .refusal)
+  pub check : (bytes : List ℕ) → Refused (checkedBox bytes .refusal) → checkedBox bytes ≡ refusedStart (checkedBox bytes .refusal)
+  pub read : (bytes nodes : List ℕ) → Refused (readBox bytes nodes .refusal)
+      → (readBox bytes nodes ≡ refusedStart (readBox bytes nodes .refusal)) × (nodesRead bytes nodes ≡ nodes)
+  -- a body is an empty part
+  pub body : (bytes : List ℕ) (j : ℕ) → Refused (firstMet (bodyChecks bytes j)) → bodyOf bytes j ≡ []
+  -- write gives length 0 and leaves its destination
+  pub write : (s : Session) (nodes list out : List ℕ) → Refused (written s nodes list out .refusal)
+      → (written s nodes list out ≡ record { refusal = written s nodes list out .refusal; length = 0; session = s }) × (outWritten s nodes list out ≡ out)
+  -- read out leaves the object; 14 comes with its block, any other with block 0
+  pub read-out : (s : Session) (nodes object : List ℕ) → Refused (readOut s nodes object .refusal)
+      → (readOut s nodes object ≡ record { refusal = readOut s nodes object .refusal; block = cond (eqb (readOut s nodes object .refusal) 14) (missingIn s) 0; session = s })
+      × (objectOut s nodes object ≡ object)
+  -- a step leaves the nodes buffer, and so does a run; a plan leaves its destination
+  pub step : (s : Session) (nodes : List ℕ) (j a b : ℕ) → Refused (stepped s nodes j a b .refusal)
+      → (stepped s nodes j a b ≡ record { refusal = stepped s nodes j a b .refusal; session = s }) × (nodesStepped s nodes j a b ≡ nodes)
+  pub plan : (s : Session) (out : List ℕ) → Refused (planned s out .refusal)
+      → (planned s out ≡ refusedRepairs s (planned s out .refusal)) × (outPlanned s out ≡ out)
+  pub run : (s : Session) (nodes : List ℕ) → Refused (ran s nodes .refusal)
+      → (ran s nodes ≡ refusedRepairs s (ran s nodes .refusal)) × (nodesRan s nodes ≡ nodes)
