@@ -1,5 +1,6 @@
 #!/usr/bin/env bash
-# The two programs on boxes and on other bytes, each output compared byte for byte with what document 01 says.
+# The two programs on boxes, on other bytes, and where reading or writing fails: standard output compared byte for byte with what
+# document 01 says, standard error with the README's two texts.
 # Usage: bash tests/programs.sh [FOLDER OF THE PROGRAMS]. `rt check lister refiller` makes them in target/bin.
 set -euo pipefail
 root=$(cd "$(dirname "$0")/.." && pwd)
@@ -15,22 +16,49 @@ bytes() { for number in "$@"; do printf "\\x$(printf %02x "$number")"; done; }
 # many COUNT NUMBER: the byte, so many times
 many() { head -c "$1" /dev/zero | tr '\0' "\\$(printf %03o "$2")"; }
 
-# holds PROGRAM NAME: what the program writes of $room/input is $room/wanted
-holds() {
+# same PROGRAM NAME: what the program wrote is $room/wanted, and what it said on standard error is $room/complaint
+same() {
     cases=$((cases + 1))
-    "$programs/$1" <"$room/input" >"$room/wrote"
-    if ! cmp "$room/wrote" "$room/wanted"; then
+    if ! cmp "$room/wrote" "$room/wanted" || ! cmp "$room/said" "$room/complaint"; then
         echo "$1 differs: $2"
         differ=$((differ + 1))
     fi
 }
 
-# both NAME LINE: both programs print this line
+# run PROGRAM NAME: the program on the input of the call
+run() {
+    "$programs/$1" >"$room/wrote" 2>"$room/said"
+    same "$1" "$2"
+}
+
+# uneven: hands its input on in pieces of 1, 999 and 4,097 bytes, with pauses, and then of 977
+uneven() {
+    for size in 1 999 4097; do
+        dd bs="$size" count=1 status=none
+        sleep 0.02
+    done
+    dd bs=977 status=none
+}
+
+# holds PROGRAM NAME [piped]: what the program writes of $room/input, a file or through a pipe in uneven pieces, is $room/wanted
+holds() {
+    if [ "${3:-}" = piped ]; then
+        uneven <"$room/input" | "$programs/$1" >"$room/wrote" 2>"$room/said" || true
+        same "$1" "$2, piped"
+    else
+        run "$1" "$2" <"$room/input"
+    fi
+}
+
+# both NAME LINE [piped]: both programs print this line
 both() {
     echo "$2" >"$room/wanted"
-    holds lister "$1"
-    holds refiller "$1"
+    holds lister "$1" "${3:-}"
+    holds refiller "$1" "${3:-}"
 }
+
+# standard error is empty but where the end of this script says otherwise
+: >"$room/complaint"
 
 # ---- a box of each family: the plan, and the box of all nodes
 
@@ -150,8 +178,10 @@ weight_two 253 >"$room/largest"
 printf 'family 2 k 22 length 258 live 253\nsteps 0 rounds 0 left 0\n' >"$room/wanted"
 cp "$room/largest" "$room/input"
 holds lister "the largest box"
+holds lister "the largest box" piped
 cp "$room/largest" "$room/wanted"
 holds refiller "the largest box"
+holds refiller "the largest box" piped
 printf 'family 2 k 22 length 258 live 252\n1 253 21 22\nsteps 1 rounds 1 left 0\n' >"$room/wanted"
 weight_two 252 >"$room/input"
 holds lister "the largest box, its last node missing"
@@ -160,8 +190,10 @@ holds refiller "the largest box, its last node missing"
 
 (cat "$room/largest"; bytes 0) >"$room/input"
 both "65,536 bytes, one too many" "refused 7"
+both "65,536 bytes, one too many" "refused 7" piped
 (cat "$room/largest"; bytes 0 0) >"$room/input"
 both "65,537 bytes" "too long"
+both "65,537 bytes" "too long" piped
 many 65536 0 >"$room/input"
 both "65,536 zeros" "refused 1"
 many 65537 0 >"$room/input"
@@ -183,6 +215,34 @@ bytes 2 22 3 1 0 0 0 0 >"$room/input"
 holds lister "weight-two 22, L 259"
 echo 'too long' >"$room/wanted"
 holds refiller "weight-two 22, L 259"
+
+# ---- what cannot be read: nothing on standard output. The pipe is one whose reads do not wait: the second read fails
+
+: >"$room/wanted"
+echo 'cannot read' >"$room/complaint"
+mkfifo "$room/pipe"
+exec 3<>"$room/pipe"
+dd iflag=nonblock count=0 status=none <&3
+for program in lister refiller; do
+    run "$program" "a directory" <"$room"
+    run "$program" "a closed input" <&-
+    head -c 10 "$root/samples/simplex.box" >&3
+    run "$program" "a read that fails half way" <&3
+done
+
+# ---- what cannot be written: a full disk, a closed output, and a file that may have no more than 1,024 bytes
+
+echo 'cannot write' >"$room/complaint"
+: >"$room/wrote"
+for program in lister refiller; do
+    "$programs/$program" <"$root/samples/simplex.box" >/dev/full 2>"$room/said"
+    same "$program" "a full disk"
+    "$programs/$program" <"$root/samples/simplex.box" >&- 2>"$room/said"
+    same "$program" "a closed output"
+done
+head -c 1024 "$room/largest" >"$room/wanted"
+(trap '' XFSZ; ulimit -f 1; "$programs/refiller" <"$room/largest" >"$room/wrote" 2>"$room/said")
+same refiller "an output cut short"
 
 echo "programs: $cases outputs, $differ differ"
 [ "$differ" -eq 0 ]

@@ -1,6 +1,4 @@
 // The lister: reads one box on standard input and prints its plan.
-use libc::STDIN_FILENO;
-use libc::STDOUT_FILENO;
 ghost use mathlib.Core.Path.{_≡_};
 ghost use lib.ListN.{length};
 
@@ -13,8 +11,12 @@ fn output_room() -> [u8; 8192]
 
 fn main() {
     let mut input = listing::input_room();
-    let count = io::read_full(STDIN_FILENO, &mut input);
+    let read = stdio::read_input(&mut input);
+    if read.failed {
+        return;
+    }
+    let count = read.count;
     let mut out = output_room();
     let size = listing::list(&input[..count], &mut out);
-    io::write_all(STDOUT_FILENO, &out[..size]);
+    stdio::print(&out[..size]);
 }

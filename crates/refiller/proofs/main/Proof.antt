@@ -11,8 +11,8 @@ use Rattle.refiller.proofs.main.Tie as tie
 array-share-prefix-out : tie.Need-array-share-prefix-out
 array-share-prefix-out c = omega (arith, c .refill .ensures .0 .0, simp length-append at (ap length (c .refill .ensures .1)))
 
-slice-aggregate-write-all : tie.Need-slice-aggregate-write-all
-slice-aggregate-write-all c = sym (length-take-le _ (c .before .refill .last .1 .0) (array-share-prefix-out (c .before)))
+slice-aggregate-print : tie.Need-slice-aggregate-print
+slice-aggregate-print c = sym (length-take-le _ (c .before .refill .last .1 .0) (array-share-prefix-out (c .before)))
 
 pub main-spec : {M : Type 1} → statement M
 main-spec =
@@ -21,11 +21,12 @@ main-spec =
     (λ c κs. search needs)
     (λ c. search needs)
     (λ c κs. search needs)
+    (λ c. search needs)
     (λ c κs. search needs)
     (λ c. search needs)
     (λ c. search needs)
     (λ c κs. search needs)
     array-share-prefix-out
-    slice-aggregate-write-all
+    slice-aggregate-print
     (λ c κs. search needs)
     (λ c. search needs))
