@@ -71,7 +71,7 @@ impl Session {
     }
 
     // The plan carried out on the nodes buffer; the repaired nodes become live.
-    pub fn run(self, nodes: &mut [u8]) -> Repairs
+    pub fn run(mut self, nodes: &mut [u8]) -> Repairs
         ensures { λ r. ⌜ r ≡ ran self (now (nodes .entry)) ⌝ }
         ensures { λ _. ⌜ now (nodes .exit) ≡ nodesRan self (now (nodes .entry)) ⌝ }
     {
@@ -83,12 +83,7 @@ impl Session {
         let made = self.draw_up(&mut steps);
         planning::carry::carry_out(self.len, &steps, made.steps, nodes);
         let repaired = made.live;
-        let next = Session {
-            family: self.family,
-            k: self.k,
-            len: self.len,
-            live: repaired,
-        };
-        counted(made, next)
+        self.live = repaired;
+        counted(made, self)
     }
 }
