@@ -135,13 +135,13 @@ pub fn list_live(marks: &[bool; 256], n: usize) -> [u8; 256]
     ensures { λ r. ⌜ r ≡ liveNodes (now (marks .entry)) n ++ replicate (256 - length (liveNodes (now (marks .entry)) n)) 0 ⌝ }
 {
     let mut list = [0u8; 256];
-    let mut count: usize = 0;
+    let mut place: usize = 0;
     let mut j: usize = 0;
     while j < n {
         j += 1;
         if marks[j] {
-            list[count] = (j % 256) as u8;
-            count += 1;
+            list[place] = (j % 256) as u8;
+            place += 1;
         }
     }
     list

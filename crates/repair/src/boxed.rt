@@ -35,9 +35,9 @@ impl Session {
     pub fn check(bytes: &[u8]) -> Started
         ensures { λ r. ⌜ r ≡ checkedBox (now (bytes .entry)) ⌝ }
     {
-        let bad = boxes::box_refusal(bytes);
-        if bad != 0 {
-            return refused(bad);
+        let number = boxes::box_refusal(bytes);
+        if number != 0 {
+            return refused(number);
         }
         let session = box_session(bytes);
         Started {

@@ -14,10 +14,10 @@ use Rattle.lists.proofs.list_live.Statement.{statement}
 use Rattle.lists.proofs.list_live.Tie as tie
 
 abbrev Inv-loop : tie.InvT-loop
-Inv-loop marks n list₀ count₀ j₀ list count j = ((j ≤ n) × (count ≡ length (liveNodes marks j))) × (list ≡ padded (liveNodes marks j))
+Inv-loop marks n list₀ place₀ j₀ list place j = ((j ≤ n) × (place ≡ length (liveNodes marks j))) × (list ≡ padded (liveNodes marks j))
 
 abbrev μ-loop : tie.MeasureT-loop
-μ-loop marks n list₀ count₀ j₀ list count j = n - j
+μ-loop marks n list₀ place₀ j₀ list place j = n - j
 
 loop-holds : tie.Need-loop-holds Inv-loop μ-loop
 unfolding liveFrom

@@ -1,4 +1,5 @@
--- `planning::rounds::plan_round` meets its contract: each turn finds the round's next repair, until there is none.
+-- `planning::rounds::plan_round` meets its contract: each turn finds the round's next repair, until there is none. What the search goes
+-- by stands in the invariant.
 -- Assumes nothing.
 use mathlib.Core.Path.{_≡_, refl, sym, ap, _∙_}
 use mathlib.Core.List.{List, _++_}
@@ -15,13 +16,13 @@ use Rattle.families.proofs.Laws.{few}
 use Rattle.lists.specs.Lists.{liveNodes, setLive}
 use Rattle.lists.proofs.Laws.{live-nodes-inside}
 use Rattle.planning.specs.Plan.{roundSteps, marksAfter, stepBytes}
-use Rattle.planning.specs.Search.{RoundBegins}
+use Rattle.planning.specs.Search.{RoundBegins, worthTrying}
 use Rattle.planning.proofs.RoundLaws.{all-live, InRound, Next, next-none, next-some, round-none, round-some, round-room, round-more, round-done}
 use Rattle.planning.proofs.rounds.plan_round.Statement.{statement}
 use Rattle.planning.proofs.rounds.plan_round.Tie as tie
 
 abbrev Inv-loop : tie.InvT-loop
-Inv-loop family k columns marks round out₀ from next₀ n count all worth steps₀ node₀ out next steps node = InRound family k marks round out₀ from next₀ out next steps node
+Inv-loop family k columns marks round out₀ from next₀ n count all worth steps₀ node₀ out next steps node = RoundBegins family k columns (take count all) marks × (worth ≡ worthTrying family k (take count all)) × InRound family k marks round out₀ from next₀ out next steps node
 
 abbrev μ-loop : tie.MeasureT-loop
 μ-loop family k columns marks round out₀ from next₀ n count all worth steps₀ node₀ out next steps node = n - node
@@ -57,38 +58,38 @@ worth-trying-requires : tie.Need-worth-trying-requires Inv-loop μ-loop
 worth-trying-requires c κs = (c .before .before .before .before .before .before .pre .0, rw (live-list (c .before)) (live-nodes-inside _ _))
 
 loop-holds : tie.Need-loop-holds Inv-loop μ-loop
-loop-holds c = round-none (c .before .before .before .before .before .before .before .pre .1 .1)
+loop-holds c =
+    let p = c .before .before .before .before .before .before .before .pre in
+    (record { range = p .0 .0; table = p .0 .1; nodes = live-list (c .before .before) }, c .worth-trying .ensures, round-none (p .1 .1))
 
 next-repair-requires : tie.Need-next-repair-requires Inv-loop μ-loop
-next-repair-requires c κs =
-    let p = c .before .before .before .before .before .before .before .before .before .before .pre .0 in
-    (record { range = p .0; table = p .1; nodes = live-list (c .before .before .before .before .before) }, (c .before .before .before .worth-trying .ensures, c .before .before .loop .inv .within))
+next-repair-requires c κs = (search needs, (search needs, search needs))
 
 same-length : tie.Need-same-length Inv-loop μ-loop
-same-length c = c .before .before .before .before .before .loop .inv .kept
+same-length c = c .before .before .before .before .before .loop .inv .2 .kept
 
 returns-2 : tie.Need-returns-2 Inv-loop μ-loop
 returns-2 c =
-    let w = c .before .before .before .before .before .loop .inv in
+    let w = c .before .before .before .before .before .loop .inv .2 in
     let e = round-done w (next-none _ _ _ _ _ _ (c .before .before .next-repair .ensures) (c .if2 .taken)) in
     rw e (w .count, (w .bytes, w .marked))
 
 -- the repair that was found
 found : (c : tie.Else2 Inv-loop μ-loop) → Next (c .before .before .before .before .before .before .before .before .before .before .before .before .before .args .family) (c .before .before .before .before .before .before .before .before .before .before .before .before .before .args .k) (now (c .before .before .before .before .before .before .before .before .before .before .before .before .before .args .marks)) (c .before .before .before .before .before .before .before .before .before .before .before .before .before .args .round) (c .before .before .before .before .before .loop .node) (c .before .before .next-repair .result)
-found c = next-some _ _ _ _ _ _ (c .before .before .next-repair .ensures) (c .before .before .before .before .before .before .before .before .before .before .before .before .before .pre .0 .0) (c .before .before .before .before .before .loop .inv .within) (c .if2 .left)
+found c = next-some _ _ _ _ _ _ (c .before .before .next-repair .ensures) (c .before .before .before .before .before .before .before .before .before .before .before .before .before .pre .0 .0) (c .before .before .before .before .before .loop .inv .2 .within) (c .if2 .left)
 
 add-put-step : tie.Need-add-put-step Inv-loop μ-loop
-add-put-step c = omega (arith, round-room (c .before .before .before .before .before .loop .inv) (c .before .before .next-repair .result) (found c), c .before .before .before .before .before .loop .inv .kept, c .before .before .before .before .before .before .before .before .before .before .before .before .before)
+add-put-step c = omega (arith, round-room (c .before .before .before .before .before .loop .inv .2) (c .before .before .next-repair .result) (found c), c .before .before .before .before .before .loop .inv .2 .kept, c .before .before .before .before .before .before .before .before .before .before .before .before .before)
 
 part-put-step-end : tie.Need-part-put-step-end Inv-loop μ-loop
-part-put-step-end c = round-room (c .before .before .before .before .before .loop .inv) (c .before .before .next-repair .result) (found c)
+part-put-step-end c = round-room (c .before .before .before .before .before .loop .inv .2) (c .before .before .next-repair .result) (found c)
 
 put-step-requires : tie.Need-put-step-requires Inv-loop μ-loop
 put-step-requires c κs =
     let n = found (c .before) in
     let h = few _ _ (c .before .before .before .before .before .before .before .before .before .before .before .before .before .before .pre .0 .0) in
     let at = c .before .before .before .before .before .before .before .before .before .before .before .before .before .before .args .from + 4 * c .before .before .before .before .before .before .loop .steps in
-    (rw (add-sub-cancel-left at 4) (length-mid (c .before .before .before .before .before .before .loop .out) at 4 (part-put-step-end (c .before))), (omega (arith, c .before .before .before .before .before .before .before .before .before .before .before .before .before .before .pre .1 .0, round-some (c .before .before .before .before .before .before .loop .inv) (c .before .before .before .next-repair .result) n), omega (arith, n .last), omega (arith, n .smaller-last), omega (arith, n .larger-last)))
+    (rw (add-sub-cancel-left at 4) (length-mid (c .before .before .before .before .before .before .loop .out) at 4 (part-put-step-end (c .before))), (omega (arith, c .before .before .before .before .before .before .before .before .before .before .before .before .before .before .pre .1 .0, round-some (c .before .before .before .before .before .before .loop .inv .2) (c .before .before .before .next-repair .result) n), omega (arith, n .last), omega (arith, n .smaller-last), omega (arith, n .larger-last)))
 
 element-write-next : tie.Need-element-write-next Inv-loop μ-loop
 element-write-next c = omega (arith, found (c .before .before .before .before) .last, few _ _ (c .before .before .before .before .before .before .before .before .before .before .before .before .before .before .before .before .before .pre .0 .0))
@@ -100,9 +101,9 @@ loop-less c =
 
 loop-again : tie.Need-loop-again Inv-loop μ-loop
 loop-again c =
-    let w = c .before .before .before .before .before .before .before .before .before .loop .inv in
+    let b = c .before .before .before .before .before .before .before .before .before .loop .inv in
     rw (c .before .before .put-step .ensures, add-sub-cancel-left (c .before .before .before .before .before .before .before .before .before .before .before .before .before .before .before .before .before .args .from + 4 * c .before .before .before .before .before .before .before .before .before .loop .steps) 4)
-    (round-more w (c .before .before .before .before .before .before .next-repair .result) (found (c .before .before .before .before)))
+    (b .0, b .1, round-more (b .2) (c .before .before .before .before .before .before .next-repair .result) (found (c .before .before .before .before)))
 
 pub plan-round-spec : {M : Type 1} → statement M
 plan-round-spec =

@@ -24,7 +24,7 @@ returns : tie.Need-returns Inv-loop μ-loop
 unfolding worthTrying
 returns c =
     let g = c .before .before .before .args in
-    rw (lt-ltb (nodeCount (g .family) (g .k) / 5) (length (g .live .now)) (rw (c .before .node-count .ensures) at (c .if1 .taken)))
+    rw (lt-ltb (nodeCount (g .family) (g .k) / 5) (length (g .live .now)) (omega (arith, c .before .node-count .ensures)))
 
 set-thirds-requires : tie.Need-set-thirds-requires Inv-loop μ-loop
 set-thirds-requires c κs = (c .before .before .before .before .before .before .pre .0, (c .before .before .before .before .before .before .pre .1, omega arith))
@@ -36,7 +36,7 @@ returns-2 : tie.Need-returns-2 Inv-loop μ-loop
 unfolding worthTrying
 returns-2 c =
     let g = c .before .before .before .before .before .args in
-    rw (le-ltb (nodeCount (g .family) (g .k) / 5) (length (g .live .now)) (rw (c .before .before .before .node-count .ensures) at (c .before .before .if1 .left))) (reaching-done (c .before .loop .inv) (omega arith))
+    rw (le-ltb (nodeCount (g .family) (g .k) / 5) (length (g .live .now)) (omega (arith, c .before .before .before .node-count .ensures))) (reaching-done (c .before .loop .inv) (omega arith))
 
 pub worth-trying-spec : {M : Type 1} → statement M
 worth-trying-spec =
