@@ -1,9 +1,9 @@
 -- The lowest set bit of a number, and what is left without it.
 -- Assumes nothing.
-use mathlib.Core.Path.{_≡_, refl, sym, ap, ap₂, _∙_, subst}
-use mathlib.Core.Logic.{_⊎_, inl, inr, ⊎-elim}
-use Prim.Native.Nat.{ℕ, zero, suc, _+_, _-_, _*_, _/_, _%_, _^_, _≤_, _<_}
-use native.Mathlib.Nat.{pow-suc, mul-assoc, mul-comm, mul-one, one-mul, add-mul, mul-div-cancel, mul-mod-left, mul-add-div-right, mul-add-mod-self-right, zero-lt-suc, le-of-suc-le-suc, not-suc-le-zero, eq-zero-or-pos}
+use mathlib.Core.Path.{_≡_, sym, ap, ap₂, _∙_, subst}
+use mathlib.Core.Logic.{_⊎_, ⊎-elim}
+use Prim.Native.Nat.{ℕ, zero, suc, _+_, _-_, _*_, _/_, _%_, _^_, _<_}
+use native.Mathlib.Nat.{pow-suc, mul-assoc, mul-comm, mul-one, one-mul, add-mul, mul-div-cancel, mul-mod-left, mul-add-mod-self-right, zero-lt-suc, le-of-suc-le-suc, not-suc-le-zero, eq-zero-or-pos}
 use native.Mathlib.Decide.{decLt}
 use native.Mathlib.Omega.{arith}
 use lib.Arith.{bin-ind}

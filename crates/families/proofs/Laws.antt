@@ -2,7 +2,7 @@
 -- and column undo each other, related nodes differ, and a node's column without its lowest bit is an earlier node's.
 -- Assumes nothing.
 use mathlib.Core.Path.{_≡_, refl, sym, ap, ap₂, _∙_, subst}
-use mathlib.Core.Bool.{Bool, true, false}
+use mathlib.Core.Bool.{Bool, true}
 use Prim.Native.Nat.{ℕ, zero, suc, _+_, _-_, _*_, _^_, _≤_, _<_}
 use native.Mathlib.Nat.{mul-le-mul, pow-suc, zero-add, zero-mul, suc-mul}
 use native.Mathlib.Omega.{arith}
@@ -11,13 +11,13 @@ use lib.Bits.{bitXor, xor-self, xor-comm}
 use lib.Count.{trailingZeros}
 use lib.Dec.{eqb}
 use lib.Pow.{pow-pos, pow-mono, pow-lt}
-use Rattle.base.proofs.Xor.{xor-third, xor-assoc, xor-zero-eq}
+use Rattle.base.proofs.Xor.{xor-third, xor-assoc}
 use Rattle.base.proofs.LowestBit.{Lowest, lowest, lowest-power, lowest-sum, pow-below}
 use Rattle.families.proofs.First.{first-of, first-none, found}
-use Rattle.families.proofs.PairLaws.{PairOf, pair-of, pair-count, pairs, pair-once, unit-lt, data-column, pair-column, pair-is-node, pairs-le, placeOf}
+use Rattle.families.proofs.PairLaws.{PairOf, pair-of, pair-count, pair-once, unit-lt, data-column, pair-column, pair-is-node, pairs-le, placeOf}
 use Rattle.families.proofs.TetrahedronLaws.{Entry, entry}
 use Rattle.families.proofs.TetrahedronLaws as tetra
-use Rattle.families.specs.Families.{leastK, mostK, KInRange, IsNode, nodeCount, columnOf, nodeOf, areRelated, unit, pairNode}
+use Rattle.families.specs.Families.{KInRange, IsNode, nodeCount, columnOf, nodeOf, areRelated, unit, pairNode}
 use Rattle.families.specs.declared.Family.{Family}
 use Rattle.families.specs.declared.Family.the-variants.{Simplex, WeightTwo, Tetrahedron}
 

@@ -1,13 +1,11 @@
 -- Weight-two: the nodes are the pairs a < b of the numbers 0 to k, each once, in document 01's order, for every k.
 -- Assumes nothing.
-use mathlib.Core.Path.{_≡_, refl, sym, ap, ap₂, _∙_, subst}
-use mathlib.Core.Bool.{Bool, true, false, cond}
+use mathlib.Core.Path.{_≡_, refl, sym, ap, ap₂, _∙_}
 use Prim.Native.Nat.{ℕ, zero, suc, _+_, _-_, _*_, _/_, _^_, _≤_, _<_}
 use native.Mathlib.Nat.{zero-lt-suc, le-of-suc-le-suc, not-suc-le-zero, pow-suc, mul-div-cancel, zero-add, mul-add, mul-le-mul}
 use native.Mathlib.Decide.{decLe, decLt}
 use native.Mathlib.Omega.{arith}
 use borrow.Author.Tests.{lt-ltb, le-ltb}
-use lib.Dec.{ltb}
 use lib.Pow.{pow-lt, pow-pos, pow-mono}
 use Rattle.families.specs.Families.{smallerAt, largerAt, unit, pairNode, nodeCount, columnOf}
 use Rattle.families.specs.declared.Family.the-variants.{WeightTwo}

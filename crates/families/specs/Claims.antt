@@ -4,7 +4,7 @@ use mathlib.Core.Bool.{true}
 use Prim.Native.Nat.{ℕ, _+_, _-_, _^_, _≤_, _<_}
 use Rattle.families.specs.Families.{KInRange, IsNode, nodeCount, columnOf, nodeOf, areRelated, pairNode}
 use Rattle.families.specs.declared.Family.{Family}
-use Rattle.families.specs.declared.Family.the-variants.{Simplex, WeightTwo, Tetrahedron}
+use Rattle.families.specs.declared.Family.the-variants.{WeightTwo, Tetrahedron}
 
 -- of a family with k data blocks
 pub record FamilyClaims (f : Family) (k : ℕ) : Type 0 where

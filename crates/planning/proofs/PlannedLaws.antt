@@ -1,9 +1,9 @@
 -- A plan made round by round: what has been put into the list and marked, and that there is room for every step.
 -- Assumes nothing.
-use mathlib.Core.Path.{_≡_, refl, sym, ap, ap₂, _∙_, subst}
+use mathlib.Core.Path.{_≡_, refl, sym, ap, _∙_, subst}
 use mathlib.Core.Bool.{Bool, true, false, cond}
 use mathlib.Core.List.{List, [], _∷_, _++_, append-assoc, append-nil}
-use Prim.Native.Nat.{ℕ, zero, suc, _+_, _-_, _*_, _≤_, _<_}
+use Prim.Native.Nat.{ℕ, zero, suc, _+_, _-_, _*_, _≤_}
 use native.Mathlib.Nat.{sub-zero, zero-add}
 use native.Mathlib.Numerals.{add-one}
 use native.Mathlib.Omega.{arith}
@@ -16,7 +16,6 @@ use Rattle.lists.specs.Lists.{liveNodes, setLive}
 use Rattle.planning.specs.Claims.{CanMakeAll}
 use Rattle.planning.specs.Plan.{Step, isRepaired, stepOf, stepsFrom, roundSteps, marksAfter, roundsFrom, planOf, stepBytes, lastRound, nodesLeft}
 use Rattle.planning.specs.Planned.{plannedOf}
-use Rattle.planning.specs.declared.Planned.{Planned}
 use Rattle.planning.proofs.MakeLaws.{length-marksAfter, can-make-append, round-makes, make-counts, left-few, left-is}
 use Rattle.planning.proofs.PlanLaws.{rounds-end, rounds-more}
 use Rattle.planning.proofs.RoundLaws.{bytes-append, length-bytes, marks-append}

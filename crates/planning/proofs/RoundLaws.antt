@@ -1,23 +1,21 @@
 -- The steps of a round, one next repair after the other, and how far a round has been put into a list of bytes and marked.
 -- Assumes nothing.
-use mathlib.Core.Path.{_≡_, refl, sym, ap, ap₂, _∙_}
-use mathlib.Core.Bool.{Bool, true, false, cond, not, _&&_}
+use mathlib.Core.Path.{_≡_, refl, sym, ap, _∙_}
+use mathlib.Core.Bool.{Bool, true, false, cond, not}
 use mathlib.Core.Logic.{_⊎_, inl, inr}
-use mathlib.Core.List.{List, [], _∷_, _++_, append-assoc, append-nil, map, map-append}
+use mathlib.Core.List.{List, [], _∷_, _++_, append-assoc, append-nil, map-append}
 use Prim.Native.Nat.{ℕ, zero, suc, _+_, _-_, _*_, _≤_, _<_}
-use native.Mathlib.Nat.{add-zero, sub-zero, eq-zero-or-pos}
+use native.Mathlib.Nat.{sub-zero, eq-zero-or-pos}
 use native.Mathlib.Omega.{arith}
 use borrow.Author.Tests.{ltb-true, ne-eqb}
 use borrow.Rule.Slice.PartMut.{putMid, same-len-mid}
-use lib.Dec.{eqb, ltb}
-use lib.ListN.{length, take, drop, set, length-append, length-take, take-append-drop}
-use lib.Seq.{drop-drop, take-at, drop-at, length-take-le}
-use Rattle.base.proofs.Tests.{and-left, and-right}
+use lib.Dec.{ltb}
+use lib.ListN.{length, set, length-append, take-append-drop}
+use Rattle.base.proofs.Tests.{and-right}
 use Rattle.blocks.proofs.PartLaws.{length-mid, put-beside}
 use Rattle.families.specs.declared.Family.{Family}
-use Rattle.families.specs.Families.{KInRange, IsNode, nodeCount, firstFrom}
+use Rattle.families.specs.Families.{KInRange, nodeCount, firstFrom}
 use Rattle.families.proofs.First.{found}
-use Rattle.families.proofs.Laws.{few}
 use Rattle.lists.specs.Lists.{isLive, setLive, liveFrom}
 use Rattle.lists.proofs.Laws.{live-few}
 use Rattle.lists.proofs.MarkLaws.{live-append}
@@ -25,7 +23,7 @@ use Rattle.planning.specs.Pairs.{smallerNode, largerNode}
 use Rattle.planning.specs.Plan.{Step, isRepaired, stepOf, stepsFrom, roundSteps, repairedNodes, marksAfter, stepBytes}
 use Rattle.planning.specs.Search.{nextNode, repairOf}
 use Rattle.planning.specs.declared.Repair.{Repair}
-use Rattle.planning.proofs.PairLaws.{PairOf, pair-of, live-kept}
+use Rattle.planning.proofs.PairLaws.{pair-of, live-kept}
 
 -- ---- lists of steps
 

@@ -6,7 +6,7 @@ use mathlib.Core.List.{List}
 use Prim.Native.Nat.{ℕ, _+_, _≤_, _<_}
 use native.Mathlib.Omega.{arith}
 use borrow.Author.Tests.{lt-ltb, le-ltb, ne-eqb}
-use lib.Dec.{eqb, ltb}
+use lib.Dec.{ltb}
 use lib.ListN.{length, getD, drop}
 use Rattle.base.proofs.Tests.{is-false}
 use Rattle.families.specs.declared.Family.{Family}
@@ -15,7 +15,6 @@ use Rattle.lists.specs.Lists.{isLive, liveNodes}
 use Rattle.lists.proofs.Laws.{outside-none, live-nodes-inside}
 use Rattle.planning.specs.Pairs.{largerNode, smallerNode}
 use Rattle.planning.specs.Search.{RoundBegins, livePartner, worthTrying, nextNode, repairOf}
-use Rattle.planning.specs.declared.Repair.{Repair}
 use Rattle.planning.specs.Plan.{isRepaired}
 use Rattle.planning.proofs.WorthLaws.{worth-repaired}
 use Rattle.planning.proofs.PairLaws.{firstIn, first-step, first-end, hasPartner, smaller-first, partner-is, pair-of, next-skip, next-is, next-end, live-kept, none-kept, pair-repairs}

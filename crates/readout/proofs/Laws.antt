@@ -1,18 +1,17 @@
 -- The data blocks in a nodes buffer, one after the other; those of an encoded object are the object.
 -- Assumes nothing.
-use mathlib.Core.Path.{_≡_, refl, sym, ap, _∙_}
-use mathlib.Core.Bool.{Bool, true, false, not}
-use mathlib.Core.List.{List, [], _++_}
+use mathlib.Core.Path.{_≡_, ap, _∙_}
+use mathlib.Core.List.{List}
 use Prim.Native.Nat.{ℕ, zero, suc, _+_, _-_, _*_, _^_, _≤_, _<_}
 use native.Mathlib.Nat.{suc-mul, zero-mul}
 use native.Mathlib.Omega.{arith}
-use lib.ListN.{length, take, drop, length-append}
+use lib.ListN.{length, take}
 use lib.Seq.{take-add, take-all}
 use Rattle.families.specs.declared.Family.{Family}
-use Rattle.families.specs.Families.{KInRange, IsNode, nodeCount, columnOf, nodeOf}
-use Rattle.families.proofs.Laws.{unit-node, node-of, short}
+use Rattle.families.specs.Families.{KInRange, IsNode, columnOf}
+use Rattle.families.proofs.Laws.{unit-node, node-of}
 use Rattle.blocks.specs.Blocks.{blockOf, withBlock, InBuffer}
-use Rattle.blocks.proofs.BlockLaws.{in-buffer, take-through}
+use Rattle.blocks.proofs.BlockLaws.{take-through}
 use Rattle.blocks.proofs.PartLaws.{length-blockOf}
 use Rattle.encoding.specs.Matrix.{dataBlock, nodeBlock, nodesBuffer}
 use Rattle.encoding.proofs.Linear.{node-block-unit}

@@ -1,9 +1,9 @@
 -- `encoding::encode` meets its contract: a refusal leaves the nodes buffer alone, and an accepted call fills all of it.
 -- Assumes nothing.
 use mathlib.Core.Path.{_≡_, sym, _∙_, ap, subst}
-use Prim.Native.Nat.{ℕ, _*_}
+use Prim.Native.Nat.{_*_}
 use Rattle.families.specs.declared.Family.{Family}
-use Rattle.families.specs.Families.{KInRange, familyOf, nodeCount}
+use Rattle.families.specs.Families.{KInRange, nodeCount}
 use Rattle.encoding.specs.Matrix.{nodesBuffer}
 use Rattle.encoding.specs.Encode.{encodeAnswer}
 use Rattle.encoding.proofs.Answers.{kept, written, Accepted, accepted-call}

@@ -1,7 +1,7 @@
 -- `families::columns_by_node` meets its contract: before each turn the table has the columns as far as node j.
 -- Assumes nothing.
 use mathlib.Core.Path.{_≡_, _∙_, ap}
-use Prim.Native.Nat.{ℕ, _-_, _≤_}
+use Prim.Native.Nat.{_-_, _≤_}
 use Rattle.families.proofs.Laws.{few}
 use Rattle.families.proofs.TableLaws.{columnsTo, columns-none, columns-more, columns-all}
 use Rattle.families.specs.Families.{nodeCount}

@@ -1,6 +1,6 @@
 -- `families::family_of` meets its contract, by its two tests.
 -- Assumes nothing.
-use borrow.Author.Tests.{eq-eqb, ne-eqb}
+use borrow.Author.Tests.{ne-eqb}
 use Rattle.families.proofs.family_of.Statement.{statement}
 use Rattle.families.proofs.family_of.Tie as tie
 

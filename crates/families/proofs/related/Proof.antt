@@ -1,6 +1,5 @@
 -- `families::related` meets its contract: it is the XOR of the three columns.
 -- Assumes nothing.
-use mathlib.Core.Path.{_∙_, ap₂}
 use Rattle.families.specs.Families.{areRelated}
 use borrow.Author.Needs.{needs}
 use Rattle.families.proofs.related.Statement.{statement}

@@ -1,7 +1,7 @@
 -- `lists::count_live` meets its contract: before each turn as many are counted as are live of 1 to j.
 -- Assumes nothing.
 use mathlib.Core.Path.{_≡_, refl, sym, ap, _∙_}
-use Prim.Native.Nat.{ℕ, _+_, _-_, _≤_}
+use Prim.Native.Nat.{ℕ, _-_, _≤_}
 use denote.Ref.{now}
 use lib.ListN.{length, length-append}
 use native.Mathlib.Omega.{arith}

@@ -10,7 +10,7 @@ use Rattle.families.specs.Families.{nodeCount}
 use Rattle.families.proofs.Laws.{short}
 use Rattle.blocks.specs.Blocks.{InBuffer, blockOf, withBlock}
 use Rattle.blocks.proofs.BlockLaws.{in-buffer}
-use Rattle.readout.specs.DataBlocks.{dataNode, dataBlocks}
+use Rattle.readout.specs.DataBlocks.{dataBlocks}
 use Rattle.readout.proofs.Laws.{one-more}
 use native.Mathlib.Omega.{arith}
 use Rattle.readout.proofs.copy_data_blocks.Statement.{statement}

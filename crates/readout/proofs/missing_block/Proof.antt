@@ -1,11 +1,10 @@
 -- `readout::missing_block` meets its contract: before each turn the nodes of the data blocks before i are live.
 -- Assumes nothing.
 use mathlib.Core.Path.{_≡_, sym, ap, _∙_}
-use mathlib.Core.Bool.{Bool, true, false, not}
+use mathlib.Core.Bool.{true, not}
 use Prim.Native.Nat.{ℕ, _+_, _-_, _≤_, _<_}
 use borrow.Author.Count.{below-more}
-use borrow.Author.Tests.{not-true, not-false}
-use Rattle.families.specs.Families.{firstFrom}
+use borrow.Author.Tests.{not-false}
 use Rattle.families.proofs.First.{first-of, first-none}
 use Rattle.families.proofs.Laws.{few, short}
 use Rattle.lists.specs.Lists.{isLive}

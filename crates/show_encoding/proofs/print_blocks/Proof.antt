@@ -1,7 +1,6 @@
 -- `show_encoding::print_blocks` is safe and ends.
 -- Assumes nothing.
 use borrow.Author.Needs.{needs}
-use native.Mathlib.Omega.{arith}
 use Prim.Native.Nat.{_-_, _≤_}
 use Rattle.show_encoding.proofs.print_blocks.Statement.{statement}
 use Rattle.show_encoding.proofs.print_blocks.Tie as tie

@@ -1,11 +1,11 @@
 -- `families::pairs::column` meets its contract: before each turn the node's pair is `smaller` beyond that at `place` of the
 -- pairs whose first row has `row` of them.
 -- Assumes nothing.
-use mathlib.Core.Path.{_≡_, refl, sym, ap₂, _∙_}
-use Prim.Native.Nat.{ℕ, _+_, _-_, _≤_, _<_}
+use mathlib.Core.Path.{_≡_, sym, ap₂, _∙_}
+use Prim.Native.Nat.{_+_, _-_, _<_}
 use native.Mathlib.Nat.{zero-add}
 use Rattle.families.proofs.PairLaws.{pairs, pair-count, next-row, in-row, unit-small}
-use Rattle.families.specs.Families.{smallerAt, largerAt, unit, columnOf}
+use Rattle.families.specs.Families.{smallerAt, largerAt, columnOf}
 use borrow.Author.Needs.{needs}
 use native.Mathlib.Omega.{arith}
 use Rattle.families.proofs.pairs.column.Statement.{statement}

@@ -2,10 +2,10 @@
 -- other no node's.
 -- Assumes nothing.
 use mathlib.Core.Path.{_≡_, sym, ap, _∙_}
-use Prim.Native.Nat.{ℕ, _+_, _-_, _^_, _≤_, _<_}
+use Prim.Native.Nat.{ℕ, _-_, _^_, _<_}
 use lib.Count.{trailingZeros}
 use Rattle.families.proofs.Laws.{zero-none, lowBit, low-within, low-le, one-bit, high-within, TwoBits, two-bits, more-bits}
-use Rattle.families.specs.Families.{KInRange, pairNode}
+use Rattle.families.specs.Families.{KInRange}
 use Rattle.families.specs.declared.Family.the-variants.{WeightTwo}
 use borrow.Author.Needs.{needs}
 use native.Mathlib.Omega.{arith}

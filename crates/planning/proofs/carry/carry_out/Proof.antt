@@ -1,7 +1,6 @@
 -- `planning::carry::carry_out` meets its contract: before turn i the first i steps are made.
 -- Assumes nothing.
-use mathlib.Core.Path.{_≡_, refl, sym, ap, _∙_}
-use Prim.Native.Nat.{ℕ, _+_, _-_, _*_, _≤_, _<_}
+use Prim.Native.Nat.{_-_}
 use native.Mathlib.Omega.{arith}
 use borrow.Author.Needs.{needs}
 use Rattle.planning.proofs.CarryLaws.{Carried, carry-none, carry-step, carry-more, carry-done}

@@ -1,15 +1,12 @@
 -- `planning::rounds::make_plan` meets its contract: each turn makes a round, until one has no steps.
 -- Assumes nothing.
-use mathlib.Core.Path.{_≡_, refl, sym, ap, _∙_}
-use Prim.Native.Nat.{ℕ, _+_, _-_, _*_, _≤_, _<_}
+use mathlib.Core.Path.{_∙_}
+use Prim.Native.Nat.{_-_}
 use native.Mathlib.Omega.{arith}
-use denote.Ref.{now}
 use borrow.Author.Needs.{needs}
-use lib.ListN.{length}
-use Rattle.families.specs.Families.{nodeCount}
 use Rattle.families.proofs.Laws.{few}
 use Rattle.lists.proofs.Laws.{live-nodes-few}
-use Rattle.planning.proofs.PlannedLaws.{Rounds, rounds-none, marks-size, all-few, round-fits, rounds-again, rounds-answer, rounds-bytes}
+use Rattle.planning.proofs.PlannedLaws.{Rounds, rounds-none, all-few, round-fits, rounds-again, rounds-answer, rounds-bytes}
 use Rattle.planning.proofs.rounds.make_plan.Statement.{statement}
 use Rattle.planning.proofs.rounds.make_plan.Tie as tie
 

@@ -1,9 +1,8 @@
 -- `planning::rounds::plan_round` meets its contract: each turn finds the round's next repair, until there is none. What the search goes
 -- by stands in the invariant.
 -- Assumes nothing.
-use mathlib.Core.Path.{_≡_, refl, sym, ap, _∙_}
-use mathlib.Core.List.{List, _++_}
-use Prim.Native.Nat.{ℕ, _+_, _-_, _*_, _≤_, _<_}
+use mathlib.Core.Path.{_≡_, refl, sym, _∙_}
+use Prim.Native.Nat.{_+_, _-_, _*_}
 use native.Mathlib.Nat.{add-sub-cancel-left}
 use native.Mathlib.Omega.{arith}
 use denote.Ref.{now}
@@ -15,7 +14,7 @@ use Rattle.families.specs.Families.{nodeCount}
 use Rattle.families.proofs.Laws.{few}
 use Rattle.lists.specs.Lists.{liveNodes, setLive}
 use Rattle.lists.proofs.Laws.{live-nodes-inside}
-use Rattle.planning.specs.Plan.{roundSteps, marksAfter, stepBytes}
+use Rattle.planning.specs.Plan.{stepBytes}
 use Rattle.planning.specs.Search.{RoundBegins, worthTrying}
 use Rattle.planning.proofs.RoundLaws.{all-live, InRound, Next, next-none, next-some, round-none, round-some, round-room, round-more, round-done}
 use Rattle.planning.proofs.rounds.plan_round.Statement.{statement}

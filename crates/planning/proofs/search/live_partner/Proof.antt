@@ -4,7 +4,6 @@ use mathlib.Core.Path.{_≡_}
 use native.Mathlib.Omega.{arith}
 use denote.Ref.{now}
 use borrow.Author.Tests.{not-true, not-false}
-use borrow.Author.Needs.{needs}
 use Rattle.families.proofs.Laws.{few, column}
 use Rattle.families.proofs.TableLaws.{table-at}
 use Rattle.planning.proofs.PairLaws.{partner, partner-at, third-few, live-none, live-is}

@@ -1,8 +1,7 @@
 -- `planning::search::next_repair` meets its contract: the walk leaves behind it no node that the round repairs, and at a missing
 -- node the search leaves behind it no live node with a live partner.
 -- Assumes nothing.
-use mathlib.Core.Path.{_≡_, refl, sym, ap, _∙_}
-use Prim.Native.Nat.{ℕ, _+_, _-_, _≤_, _<_}
+use Prim.Native.Nat.{_-_, _<_}
 use native.Mathlib.Omega.{arith}
 use borrow.Author.Tests.{not-true}
 use borrow.Author.Needs.{needs}

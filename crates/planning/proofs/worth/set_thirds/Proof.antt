@@ -1,7 +1,7 @@
 -- `planning::worth::set_thirds` meets its contract: before each turn the nodes related to a and the live nodes before place `next` are set.
 -- Assumes nothing.
 use mathlib.Core.Path.{_≡_, _∙_}
-use Prim.Native.Nat.{ℕ, _-_, _<_}
+use Prim.Native.Nat.{_-_}
 use native.Mathlib.Omega.{arith}
 use borrow.Author.Needs.{needs}
 use lib.ListN.{length, getD}
