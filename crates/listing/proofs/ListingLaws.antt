@@ -7,23 +7,21 @@ use Prim.Native.Nat.{ℕ, _*_, _≤_, _<_}
 use native.Mathlib.Decide.{ℕ-discrete, decLt}
 use native.Mathlib.Omega.{arith}
 use borrow.Author.Tests.{lt-ltb, le-ltb, eq-eqb, ne-eqb}
-use lib.ListN.{length, drop, length-append}
+use lib.ListN.{length, drop, replicate, length-append, length-replicate}
 use Rattle.families.specs.Families.{familyOf}
 use Rattle.families.proofs.Laws.{few}
-use Rattle.checks.specs.Checks.{firstMet}
-use Rattle.boxes.specs.Box.{boxChecks}
-use Rattle.boxes.proofs.Laws.{accepted-box}
+use Rattle.boxes.specs.Box.{familyIn, kIn, lengthIn, namesIn, nodesIn}
 use Rattle.planning.specs.Made.{stepsIn}
 use Rattle.planning.proofs.CarryLaws.{steps-back}
 use Rattle.repair.specs.declared.Session.{Session}
 use Rattle.repair.specs.declared.Repairs.{Repairs}
 use Rattle.repair.specs.declared.Started.{Started}
 use Rattle.repair.specs.Session.{noStart}
-use Rattle.repair.specs.Boxed.{sessionIn, boxAnswer, checkedBox}
+use Rattle.repair.specs.Boxed.{checkedBox}
 use Rattle.repair.specs.Repairs.{planIn, repairsOf, planned, outPlanned}
 use Rattle.repair.proofs.StartLaws.{known}
-use Rattle.repair.proofs.BoxedLaws.{answer-refused}
-use Rattle.repair.proofs.RoundTripLaws.{box-starts}
+use Rattle.repair.proofs.Proved.{box-start-claim}
+use Rattle.repair.proofs.WholeWayProved.{fits-claim}
 use Rattle.repair.proofs.RepairsLaws.{plan-few, plan-made}
 use Rattle.listing.specs.Text.{refusalLine, tooLongLine}
 use Rattle.listing.specs.Listing.{answerOf}
@@ -72,22 +70,12 @@ module _ (input : List ℕ) where
       go (no l) (yes p) = absurd (h (ap length (answered input [] (omega arith) p)))
       go (no l) (no n) = refused input text (omega arith) n ∙ sym (refused input [] (omega arith) n)
 
-  module _ (passes : checkedBox input .refusal ≡ 0) where
-    pub box-passes : firstMet (boxChecks input) ≡ 0
-    unfolding checkedBox
-    box-passes = go (firstMet (boxChecks input)) (ℕ-discrete (firstMet (boxChecks input)) 0) passes
-      where
-        go : (number : ℕ) → Dec (number ≡ 0) → boxAnswer input number .refusal ≡ 0 → number ≡ 0
-        go number (yes e) p = e
-        go number (no n) p = absurd (n (ap (λ (r : Started). r .refusal) (answer-refused input number n) ∙ p))
-
-    pub session-is : checkedBox input .session ≡ sessionIn input
-    unfolding checkedBox
-    session-is = rw box-passes
-
-    -- some start gives its session
-    pub box-known : noStart (checkedBox input .session) ≡ false
-    box-known = rw session-is (box-starts input (accepted-box input box-passes))
+  -- some start gives the session of an accepted box
+  pub box-known : checkedBox input .refusal ≡ 0 → noStart (checkedBox input .session) ≡ false
+  box-known passes =
+      let from = box-start-claim input passes .start in
+      let accepted = ap (λ (r : Started). r .refusal) (sym from) ∙ passes in
+      rw from (fits-claim .start (familyIn input) (kIn input) (lengthIn input) (namesIn input) (replicate (nodesIn input * lengthIn input) 0) accepted (length-replicate (nodesIn input * lengthIn input) 0) .starts)
 
 -- ---- the plan of an accepted box's session
 
