@@ -169,8 +169,9 @@ mogtriz_stepped mogtriz_step(mogtriz_session session, uint8_t *nodes, size_t nod
 mogtriz_repairs mogtriz_plan(mogtriz_session session, uint8_t *out, size_t out_len);
 
 /*
- * The plan carried out on the nodes buffer; the next session has the repaired nodes live. Places of nodes left keep their
- * bytes; where there are any the run is accepted all the same, and `left` says how many. A refusal writes nothing:
+ * The plan carried out on the nodes buffer; the next session has the repaired nodes live. Blocks of live nodes and places of
+ * nodes left keep their bytes; where there are any left the run is accepted all the same, and `left` says how many. A live block
+ * is taken to be what it says: damage to it is not noticed, and goes into the blocks repaired from it. A refusal writes nothing:
  *   13  no start gives this session   6  nodes_len is not n * len
  */
 mogtriz_repairs mogtriz_run(mogtriz_session session, uint8_t *nodes, size_t nodes_len);

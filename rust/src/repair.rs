@@ -63,8 +63,9 @@ impl Session {
         Repairs::from_answer(raw::plan(self, out))
     }
 
-    /// The plan carried out on the nodes buffer; the next session has the repaired nodes live. Places of nodes left
-    /// keep their bytes.
+    /// The plan carried out on the nodes buffer; the next session has the repaired nodes live. Blocks of live nodes and
+    /// places of nodes left keep their bytes. A live block is taken to be what it says: damage to it is not noticed, and
+    /// goes into the blocks repaired from it.
     ///
     /// Refused with 13, then 6 for the nodes buffer; nothing is written then.
     ///
