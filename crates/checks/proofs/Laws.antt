@@ -3,7 +3,8 @@
 use mathlib.Core.Path.{_≡_, refl, ap, _∙_}
 use mathlib.Core.Bool.{Bool, true, false, _&&_, _||_, true≢false, false≢true}
 use mathlib.Core.List.{List, [], _∷_, _++_}
-use Prim.Native.Nat.{ℕ, zero, suc, _≤_, _<_}
+use Prim.Native.Nat.{ℕ, zero, suc, _*_, _≤_, _<_}
+use native.Mathlib.Nat.{mul-le-mul}
 use native.Mathlib.Omega.{arith}
 use borrow.Author.Tests.{ltb-false, lt-ltb, le-ltb}
 use lib.Dec.{ltb}
@@ -117,6 +118,10 @@ parameters-in family k L r =
         (outside-no 1 mostL L (r .some) (r .most), tt),
       ),
     )
+
+-- a number of blocks, and so many of the largest L
+pub bytes-most : {family k L : ℕ} (count most : ℕ) → count ≤ most → InRange family k L → count * L ≤ most * mostL
+bytes-most count most h r = mul-le-mul {n₂ = most} {m₂ = mostL} h (r .most)
 
 pub range-claim : RangeClaim
 range-claim family k L = (in-range family k L, parameters-in family k L)

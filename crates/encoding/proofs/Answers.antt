@@ -3,24 +3,23 @@
 use mathlib.Core.Path.{_≡_, refl, _∙_}
 use mathlib.Core.List.{List}
 use Prim.Native.Nat.{ℕ, _*_, _≤_}
-use native.Mathlib.Nat.{mul-le-mul}
 use borrow.Author.Tests.{eq-eqb, ne-eqb, eqb-true, not-false}
 use lib.ListN.{length}
 use Rattle.families.specs.Families.{familyOf, nodeCount}
 use Rattle.families.proofs.Laws.{few, short}
 use Rattle.checks.specs.Checks.{firstMet}
-use Rattle.checks.specs.Parameters.{parameterChecks}
+use Rattle.checks.specs.Parameters.{mostL, parameterChecks}
 use Rattle.checks.specs.Claims.{InRange}
-use Rattle.checks.proofs.Laws.{in-range, range-of, accepted, parameters-none, none-append, some-append}
+use Rattle.checks.proofs.Laws.{bytes-most, in-range, range-of, accepted, parameters-none, none-append, some-append}
 use Rattle.encoding.specs.Matrix.{nodesBuffer}
 use Rattle.encoding.specs.Encode.{encodeChecks, encodeAnswer, encoded}
 
 -- the lengths that are compared are small
-pub object-small : (family k L : ℕ) → firstMet (parameterChecks family k L) ≡ 0 → k * L ≤ 90112
-object-small family k L e = let r = in-range family k L e in mul-le-mul {n₂ = 22} {m₂ = 4096} (short (familyOf family) k (r .blocks) .1) (r .most)
+pub object-small : (family k L : ℕ) → firstMet (parameterChecks family k L) ≡ 0 → k * L ≤ 22 * mostL
+object-small family k L e = let r = in-range family k L e in bytes-most k 22 (short (familyOf family) k (r .blocks) .1) r
 
-pub nodes-small : (family k L : ℕ) → firstMet (parameterChecks family k L) ≡ 0 → nodeCount (familyOf family) k * L ≤ 1044480
-nodes-small family k L e = let r = in-range family k L e in mul-le-mul {n₂ = 255} {m₂ = 4096} (few (familyOf family) k (r .blocks)) (r .most)
+pub nodes-small : (family k L : ℕ) → firstMet (parameterChecks family k L) ≡ 0 → nodeCount (familyOf family) k * L ≤ 255 * mostL
+nodes-small family k L e = let r = in-range family k L e in bytes-most (nodeCount (familyOf family) k) 255 (few (familyOf family) k (r .blocks)) r
 
 module _ (family k L object nodes : ℕ) where
   abbrev n : ℕ

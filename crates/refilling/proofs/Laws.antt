@@ -4,12 +4,13 @@
 use mathlib.Core.Path.{_≡_, refl, ap, _∙_}
 use mathlib.Core.List.{List, [], _∷_}
 use Prim.Native.Nat.{ℕ, zero, suc, _*_, _≤_, _<_}
-use native.Mathlib.Nat.{mul-le-mul}
 use native.Mathlib.Omega.{arith}
 use borrow.Author.Tests.{lt-ltb, le-ltb}
 use lib.ListN.{length, take, replicate, length-replicate}
 use Rattle.families.specs.Families.{familyOf}
 use Rattle.families.proofs.Proved.{family-claims}
+use Rattle.checks.specs.Parameters.{mostL}
+use Rattle.checks.proofs.Laws.{bytes-most}
 use Rattle.boxes.specs.Box.{familyIn, kIn, lengthIn, nodesIn, boxLength}
 use Rattle.boxes.specs.Claims.{AcceptedBox}
 use Rattle.repair.specs.declared.Session.{Session}
@@ -45,10 +46,10 @@ module _ (input : List ℕ) (passes : checkedBox input .refusal ≡ 0) where
   pub box : AcceptedBox input
   box = box-start-claim input passes .form
 
-  pub nodes-most : (nodesIn input ≤ 255) × (nodesIn input * lengthIn input ≤ 1044480)
+  pub nodes-most : (nodesIn input ≤ 255) × (nodesIn input * lengthIn input ≤ 255 * mostL)
   nodes-most =
       let n = family-claims (familyOf (familyIn input)) (kIn input) (box .range .blocks) .few in
-      (n, mul-le-mul {n₂ = 255} {m₂ = 4096} n (box .range .most))
+      (n, bytes-most (nodesIn input) 255 n (box .range))
 
   pub session-is : checkedBox input .session ≡ sessionIn input
   session-is = ap (λ (r : Started). r .session) (box-start-claim input passes .is)

@@ -4,7 +4,6 @@ use mathlib.Core.Path.{_≡_, refl, _∙_}
 use mathlib.Core.Bool.{true, false, not}
 use mathlib.Core.List.{List}
 use Prim.Native.Nat.{ℕ, _*_, _≤_}
-use native.Mathlib.Nat.{mul-le-mul}
 use borrow.Author.Tests.{eqb-true, eq-eqb, ne-eqb, not-false}
 use lib.Dec.{eqb}
 use Rattle.base.proofs.Tests.{or-neither}
@@ -12,8 +11,8 @@ use Rattle.families.specs.Families.{familyOf, nodeCount}
 use Rattle.families.proofs.Laws.{few, short}
 use Rattle.checks.specs.Checks.{firstMet}
 use Rattle.checks.specs.Claims.{NoneMet, InRange}
-use Rattle.checks.specs.Parameters.{parameterChecks}
-use Rattle.checks.proofs.Laws.{in-range, range-of, accepted, parameters-none, none-append, some-append}
+use Rattle.checks.specs.Parameters.{mostL, parameterChecks}
+use Rattle.checks.proofs.Laws.{bytes-most, in-range, range-of, accepted, parameters-none, none-append, some-append}
 use Rattle.lists.specs.Lists.{someOutside, rises, listChecks, liveOutside}
 use Rattle.repair.specs.declared.Session.{Session}
 use Rattle.repair.specs.Session.{startChecks, nodesOf, noStart, nodesChecks}
@@ -68,11 +67,11 @@ module _ (s : Session) where
       record { range = in-range (s .family) (s .k) (s .len) (eqb-true _ 0 (not-false _ (n .0))); inside = n .1 }
 
   -- the lengths that are compared are small
-  pub nodes-small : Known → nodesOf s * s .len ≤ 1044480
-  nodes-small n = mul-le-mul {n₂ = 255} {m₂ = 4096} (few (familyOf (s .family)) (s .k) (n .range .blocks)) (n .range .most)
+  pub nodes-small : Known → nodesOf s * s .len ≤ 255 * mostL
+  nodes-small n = bytes-most (nodesOf s) 255 (few (familyOf (s .family)) (s .k) (n .range .blocks)) (n .range)
 
-  pub object-small : Known → s .k * s .len ≤ 90112
-  object-small n = mul-le-mul {n₂ = 22} {m₂ = 4096} (short (familyOf (s .family)) (s .k) (n .range .blocks) .1) (n .range .most)
+  pub object-small : Known → s .k * s .len ≤ 22 * mostL
+  object-small n = bytes-most (s .k) 22 (short (familyOf (s .family)) (s .k) (n .range .blocks) .1) (n .range)
 
   pub nodes-13 : (length : ℕ) → noStart s ≡ true → firstMet (nodesChecks s length) ≡ 13
   unfolding nodesChecks firstMet

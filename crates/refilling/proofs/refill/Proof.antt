@@ -5,6 +5,7 @@ use mathlib.Core.List.{[]}
 use Prim.Native.Nat.{_*_, _≤_}
 use native.Mathlib.Omega.{arith}
 use lib.ListN.{length}
+use Rattle.checks.specs.Parameters.{mostL}
 use Rattle.boxes.specs.Box.{lengthIn, nodesIn}
 use Rattle.listing.proofs.ListingLaws.{Accepted, accepted-input, turned, answered}
 use Rattle.refilling.specs.Refilled.{refilledOf}
@@ -32,7 +33,7 @@ count c = c .before .node-count .ensures
 size : (c : tie.After-block-length) → c .before .node-count .result * c .block-length .result ≡ nodesIn (c .before .before .before .before .before .before .args .input .now) * lengthIn (c .before .before .before .before .before .before .args .input .now)
 size c = rw (c .before .node-count .ensures, c .block-length .ensures)
 
-small : (c : tie.After-block-length) → (nodesIn (c .before .before .before .before .before .before .args .input .now) ≤ 255) × (nodesIn (c .before .before .before .before .before .before .args .input .now) * lengthIn (c .before .before .before .before .before .before .args .input .now) ≤ 1044480)
+small : (c : tie.After-block-length) → (nodesIn (c .before .before .before .before .before .before .args .input .now) ≤ 255) × (nodesIn (c .before .before .before .before .before .before .args .input .now) * lengthIn (c .before .before .before .before .before .before .args .input .now) ≤ 255 * mostL)
 small c = nodes-most _ (accepted (c .before .before) .passes)
 
 returns : tie.Need-returns

@@ -2,8 +2,8 @@
 -- Assumes nothing.
 use mathlib.Core.Path.{_≡_, sym, _∙_, ap₂}
 use Prim.Native.Nat.{_*_}
-use native.Mathlib.Nat.{mul-le-mul}
 use native.Mathlib.Omega.{arith}
+use Rattle.checks.proofs.Laws.{bytes-most}
 use Rattle.families.proofs.Laws.{few}
 use Rattle.checks.specs.Checks.{firstMet}
 use Rattle.boxes.specs.Box.{boxChecks, lengthIn, namesIn, nodesIn}
@@ -33,7 +33,7 @@ returns c =
 mul-if2 : tie.Need-mul-if2
 mul-if2 c =
     let b = box (c .before .before) in
-    let p = mul-le-mul {n₂ = 255} {m₂ = 4096} (few _ _ (b .range .blocks)) (b .range .most) in
+    let p = bytes-most _ 255 (few _ _ (b .range .blocks)) (b .range) in
     rw (c .node-count .ensures, c .before .block-length .ensures) (omega (arith, p))
 
 returns-2 : tie.Need-returns-2

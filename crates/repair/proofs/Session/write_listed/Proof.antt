@@ -4,9 +4,11 @@ use mathlib.Core.Path.{_≡_}
 use mathlib.Core.Bool.{true, false}
 use mathlib.Core.List.{List}
 use Prim.Native.Nat.{ℕ, _*_, _≤_}
-use native.Mathlib.Nat.{mul-le-mul, le-trans}
+use native.Mathlib.Nat.{le-trans}
 use borrow.Author.Tests.{lt-ltb, le-ltb}
 use lib.ListN.{length}
+use Rattle.checks.specs.Parameters.{mostL}
+use Rattle.checks.proofs.Laws.{bytes-most}
 use Rattle.families.specs.Families.{familyOf}
 use Rattle.families.proofs.Laws.{few, short}
 use Rattle.lists.specs.Lists.{someOutside, rises}
@@ -21,12 +23,12 @@ use Rattle.repair.proofs.Session.write_listed.Statement.{statement}
 use Rattle.repair.proofs.Session.write_listed.Tie as tie
 
 -- a list of nodes is short, and so is its box
-bounds : (s : Session) (list : List ℕ) → Known s → someOutside (nodesOf s) list ≡ false → rises list ≡ true → (length list ≤ 255) × (length list * s .len ≤ 1044480)
+bounds : (s : Session) (list : List ℕ) → Known s → someOutside (nodesOf s) list ≡ false → rises list ≡ true → (length list ≤ 255) × (length list * s .len ≤ 255 * mostL)
 bounds s list m o r =
     let l : length list ≤ 255 = le-trans (rising-few (nodesOf s) list o r) (few (familyOf (s .family)) (s .k) (m .range .blocks)) in
-    (l, mul-le-mul {n₂ = 255} {m₂ = 4096} l (m .range .most))
+    (l, bytes-most (length list) 255 l (m .range))
 
-small : (c : tie.After-struct-known) → let g = c .before .before .before .before .args in (length (g .list .now) ≤ 255) × (length (g .list .now) * g .self .len ≤ 1044480)
+small : (c : tie.After-struct-known) → let g = c .before .before .before .before .args in (length (g .list .now) ≤ 255) × (length (g .list .now) * g .self .len ≤ 255 * mostL)
 small c = let p = c .before .before .before .before .pre in bounds _ _ (known _ (p .0 .0)) (p .1 .0) (p .1 .1)
 
 returns : tie.Need-returns
