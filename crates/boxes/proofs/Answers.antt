@@ -12,9 +12,8 @@ use Rattle.checks.specs.Checks.{Check, firstMet}
 use Rattle.checks.specs.Claims.{NoneMet}
 use Rattle.checks.specs.Parameters.{parameterChecks}
 use Rattle.checks.proofs.Laws.{accepted, parameters-none, none-zero, none-left, none-right, none-append, some-append, outside-low, outside-high, outside-no}
-use Rattle.lists.specs.Lists.{placeIn}
+use Rattle.lists.specs.Lists.{listChecks, placeIn}
 use Rattle.boxes.specs.Box.{familyIn, kIn, lengthIn, heldIn, zerosIn, namesIn, nodesIn, boxLength, boxChecks, bodyChecks, bodyStart, bodyOf}
-use Rattle.boxes.specs.Names.{nameChecks}
 
 -- ---- a box
 
@@ -53,12 +52,19 @@ module _ (bytes : List ℕ) where
           rw (le-ltb (length bytes) 8 long)
           (none-append (parametersOf bytes) _ passed ∙ rw (z, ne-eqb (length bytes) (boxLength (heldIn bytes) (lengthIn bytes)) n))
 
-      -- the last three are those of n and the node numbers
-      pub by-names : zerosIn bytes ≡ true → length bytes ≡ boxLength (heldIn bytes) (lengthIn bytes) → firstMet (boxChecks bytes) ≡ firstMet (nameChecks (nodesIn bytes) (namesIn bytes))
-      unfolding boxChecks nameChecks firstMet
-      by-names z s =
-          rw (le-ltb (length bytes) 8 long, length-names bytes (omega arith))
-          (none-append (parametersOf bytes) _ passed ∙ rw (z, eq-eqb (length bytes) (boxLength (heldIn bytes) (lengthIn bytes)) s))
+      module _ (z : zerosIn bytes ≡ true) (s : length bytes ≡ boxLength (heldIn bytes) (lengthIn bytes)) where
+        pub by-held : nodesIn bytes < heldIn bytes → firstMet (boxChecks bytes) ≡ 9
+        unfolding boxChecks firstMet
+        by-held h =
+            rw (le-ltb (length bytes) 8 long)
+            (none-append (parametersOf bytes) _ passed ∙ rw (z, eq-eqb (length bytes) (boxLength (heldIn bytes) (lengthIn bytes)) s, lt-ltb (nodesIn bytes) (heldIn bytes) h))
+
+        -- the last two are those of the node numbers
+        pub by-list : heldIn bytes ≤ nodesIn bytes → firstMet (boxChecks bytes) ≡ firstMet (listChecks (nodesIn bytes) (namesIn bytes))
+        unfolding boxChecks firstMet
+        by-list h =
+            rw (le-ltb (length bytes) 8 long)
+            (none-append (parametersOf bytes) _ passed ∙ rw (z, eq-eqb (length bytes) (boxLength (heldIn bytes) (lengthIn bytes)) s, le-ltb (nodesIn bytes) (heldIn bytes) h))
 
 -- ---- a body
 

@@ -6,7 +6,7 @@ use mathlib.Core.List.{List, [], _∷_, _++_}
 use Prim.Native.Nat.{ℕ, zero, suc, _+_, _*_, _/_, _%_, _≤_, _<_}
 use native.Mathlib.Nat.{zero-mul, suc-mul, mul-le-mul-right, lt-trans}
 use native.Mathlib.Omega.{arith}
-use borrow.Author.Tests.{ltb-true, ltb-false, le-ltb, eqb-true, not-false}
+use borrow.Author.Tests.{ltb-true, ltb-false, eqb-true, not-false}
 use lib.Dec.{eqb, ltb}
 use lib.ListN.{length, getD, take, drop, length-append, length-drop, take-append-drop}
 use lib.Seq.{take-at, take-append-seam, drop-append-seam, drop-append-add, drop-cons, drop-drop, length-take-le}
@@ -17,16 +17,15 @@ use Rattle.checks.specs.Checks.{firstMet}
 use Rattle.checks.specs.Parameters.{outside, parameterChecks}
 use Rattle.checks.specs.Claims.{InRange}
 use Rattle.checks.proofs.Laws.{inside, none-zero, range-of, parameters-in}
-use Rattle.lists.specs.Lists.{someOutside, rises, placeIn}
+use Rattle.lists.specs.Lists.{someOutside, rises, listChecks, placeIn}
 use Rattle.blocks.specs.Blocks.{blockOf, withBlock, InBuffer}
 use Rattle.blocks.proofs.BlockLaws.{length-withBlock, blockOf-same, blockOf-other, in-buffer}
 use Rattle.blocks.proofs.PartLaws.{length-blockOf}
 use Rattle.boxes.specs.Box.{familyIn, kIn, lengthIn, heldIn, zerosIn, namesIn, bodiesIn, nodesIn, boxLength, boxChecks, bodyChecks, bodyPlace, bodyStart}
 use Rattle.boxes.specs.Bodies.{bodiesOf, boxOf, withBodies}
 use Rattle.boxes.specs.Places.{ListIn}
-use Rattle.boxes.specs.Names.{nameChecks}
 use Rattle.boxes.specs.Claims.{AcceptedBox}
-use Rattle.boxes.proofs.Answers.{parametersOf, box-none, length-names, by-names, accepted-body}
+use Rattle.boxes.proofs.Answers.{parametersOf, box-none, length-names, by-list, accepted-body}
 
 -- ---- lists of nodes
 
@@ -217,16 +216,15 @@ fields-of family k L list nodes =
 pub box-accepted : (family k L : ℕ) (list nodes : List ℕ) → InRange family k L
     → someOutside (nodeCount (familyOf family) k) list ≡ false → rises list ≡ true → length list ≤ nodeCount (familyOf family) k
     → length nodes ≡ nodeCount (familyOf family) k * L → firstMet (boxChecks (boxOf family k L list nodes)) ≡ 0
-unfolding nameChecks
 box-accepted family k L list nodes r o i f e =
     let n = nodeCount (familyOf family) k in
     let b = boxOf family k L list nodes in
     let d = fields-of family k L list nodes in
     let s = length-boxOf family k L list nodes (list-in L n nodes list e o) in
     let p : firstMet (parametersOf b) ≡ 0 = rw (d .family-is, d .k-is, d .length-is) (parameters-in family k L r) in
-    by-names b (omega (arith, s)) p (d .zeros-is) (s ∙ sym (ap₂ boxLength (d .held-is) (d .length-is)))
+    by-list b (omega (arith, s)) p (d .zeros-is) (s ∙ sym (ap₂ boxLength (d .held-is) (d .length-is))) (rw (d .held-is, d .family-is, d .k-is) f)
     ∙ rw (d .family-is, d .k-is, d .names-is)
-    (none-zero (nameChecks n list) (le-ltb n (length list) f, (o, (ap not i, tt))))
+    (none-zero (listChecks n list) (o, (ap not i, tt)))
 
 -- ---- an accepted box is the box of its own fields
 

@@ -5,7 +5,7 @@ use mathlib.Core.Bool.{true, not}
 use mathlib.Core.List.{List, [], _∷_}
 use Prim.Native.Nat.{ℕ, zero, suc, _+_, _*_, _≤_, _<_}
 use native.Mathlib.Omega.{arith}
-use borrow.Author.Tests.{eq-eqb, ne-eqb, le-ltb}
+use borrow.Author.Tests.{eq-eqb, ne-eqb}
 use lib.ListN.{length, getD}
 use lib.Seq.{drop-drop}
 use borrow.Rule.Slice.PartMut.{midOf}
@@ -14,25 +14,22 @@ use Rattle.blocks.specs.Blocks.{blockOf}
 use Rattle.blocks.proofs.PartLaws.{length-mid}
 use Rattle.checks.specs.Checks.{firstMet}
 use Rattle.checks.proofs.Laws.{none-zero, parameters-in}
-use Rattle.lists.specs.Lists.{rises, placeIn}
+use Rattle.lists.specs.Lists.{rises, listChecks, placeIn}
 use Rattle.boxes.specs.Box.{familyIn, kIn, lengthIn, heldIn, namesIn, bodiesIn, nodesIn, boxChecks, bodyChecks, bodyPlace, bodyOf}
 use Rattle.boxes.specs.Bodies.{boxOf, withBodies}
-use Rattle.boxes.specs.Names.{nameChecks}
 use Rattle.boxes.specs.Claims.{AcceptedBox, BoxClaim, BodyClaims, BodyClaim, BoxOfBodyClaim}
-use Rattle.boxes.proofs.Answers.{by-names, by-none, body-part}
+use Rattle.boxes.proofs.Answers.{by-list, by-none, body-part}
 use Rattle.boxes.proofs.Laws.{accepted-box, node-inside, list-in, in-kept, rises-rest, rises-above, body-fits, body-at, bodies-there, bodies-same, length-withBodies, fields-of}
 
 -- ---- a box
 
 pub box-claim : BoxClaim
-unfolding nameChecks
 box-claim bytes = (accepted-box bytes, back)
   where
     back : AcceptedBox bytes → firstMet (boxChecks bytes) ≡ 0
     back a =
-        by-names bytes (omega (arith, a .size)) (parameters-in _ _ _ (a .range)) (a .zeros) (a .size)
-        ∙ none-zero (nameChecks (nodesIn bytes) (namesIn bytes))
-        (le-ltb (nodesIn bytes) (length (namesIn bytes)) (omega (arith, a .few-held, a .names-size)), (a .nodes, (ap not (a .rising), tt)))
+        by-list bytes (omega (arith, a .size)) (parameters-in _ _ _ (a .range)) (a .zeros) (a .size) (a .few-held)
+        ∙ none-zero (listChecks (nodesIn bytes) (namesIn bytes)) (a .nodes, (ap not (a .rising), tt))
 
 -- ---- the body of a node
 

@@ -2,4 +2,3 @@ pub mod Box
 pub mod Bodies
 pub mod Claims
 pub mod Places
-pub mod Names

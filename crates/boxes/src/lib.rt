@@ -11,7 +11,6 @@ ghost use Rattle.lists.specs.Lists.{placeIn};
 ghost use Rattle.boxes.specs.Box.{familyIn, kIn, lengthIn, heldIn, zerosIn, namesIn, bodiesIn, nodesIn, boxLength, boxChecks, bodyChecks, bodyPlace, bodyStart, bodyOf};
 ghost use Rattle.boxes.specs.Bodies.{headerOf, bodiesOf, boxOf, withBodies};
 ghost use Rattle.boxes.specs.Places.{ListIn, Run};
-ghost use Rattle.boxes.specs.Names.{nameChecks};
 
 // The number of a box's family.
 pub fn family(bytes: &[u8]) -> usize
@@ -87,16 +86,6 @@ fn zeros(bytes: &[u8]) -> bool
     bytes[7] == 0
 }
 
-// 9, 4 or 5 for the node numbers of a box, in this order; else 0.
-fn names_refusal(n: usize, names: &[u8]) -> u8
-    ensures { λ r. ⌜ r ≡ firstMet (nameChecks n (now (names .entry))) ⌝ }
-{
-    if n < names.len() {
-        return 9;
-    }
-    lists::list_refusal(n, names)
-}
-
 // The first check that is met, or 0, of a box of 8 bytes or more whose family, k and L are in range.
 fn rest_refusal(bytes: &[u8]) -> u8
     requires { ⌜ 8 ≤ length (now bytes) ⌝ }
@@ -112,7 +101,11 @@ fn rest_refusal(bytes: &[u8]) -> u8
     if bytes.len() != 8 + count + count * len {
         return 7;
     }
-    names_refusal(node_count(bytes), names(bytes))
+    let n = node_count(bytes);
+    if n < count {
+        return 9;
+    }
+    lists::list_refusal(n, names(bytes))
 }
 
 // The first check of a box that is met, or 0.

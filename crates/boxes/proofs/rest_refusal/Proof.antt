@@ -7,9 +7,10 @@ use native.Mathlib.Nat.{mul-le-mul}
 use native.Mathlib.Omega.{arith}
 use borrow.Author.Tests.{not-true, not-false}
 use borrow.Author.Needs.{needs}
+use lib.ListN.{length}
 use Rattle.checks.proofs.Laws.{in-range}
 use Rattle.boxes.specs.Box.{heldIn, lengthIn, zerosIn, boxLength}
-use Rattle.boxes.proofs.Answers.{by-zeros, by-length, by-names}
+use Rattle.boxes.proofs.Answers.{by-zeros, by-length, by-held, by-list}
 use Rattle.boxes.proofs.rest_refusal.Statement.{statement}
 use Rattle.boxes.proofs.rest_refusal.Tie as tie
 
@@ -41,10 +42,22 @@ returns-2 c =
     let s = c .before .before .before .before .before .before in
     sym (by-length _ (s .pre .0) (s .pre .1) (passed (c .before .before .before)) (rw (length-is (c .before)) at (c .if2 .taken)))
 
+-- so is 7
+sized : (c : tie.Else2) → let b = c .before .before .before .before .before .before .args .bytes .now in length b ≡ boxLength (heldIn b) (lengthIn b)
+sized c = c .if2 .left ∙ length-is (c .before)
+
 returns-3 : tie.Need-returns-3
 returns-3 c =
-    let s = c .before .before .before .before .before .before .before .before .before in
-    (rw (c .before .before .node-count .ensures, c .before .names .ensures) at (c .names-refusal .ensures)) ∙ sym (by-names _ (s .pre .0) (s .pre .1) (passed (c .before .before .before .before .before .before)) (c .before .before .before .if2 .left ∙ length-is (c .before .before .before .before)))
+    let s = c .before .before .before .before .before .before .before .before in
+    sym (by-held _ (s .pre .0) (s .pre .1) (passed (c .before .before .before .before .before)) (sized (c .before .before))
+    (omega (arith, c .before .node-count .ensures, c .before .before .before .before .held .ensures, c .if3 .taken)))
+
+returns-4 : tie.Need-returns-4
+returns-4 c =
+    let s = c .before .before .before .before .before .before .before .before .before .before in
+    let n = c .before .before .before .node-count .ensures in
+    (rw (n, c .before .names .ensures) at (c .list-refusal .ensures))
+    ∙ sym (by-list _ (s .pre .0) (s .pre .1) (passed (c .before .before .before .before .before .before .before)) (sized (c .before .before .before .before)) (omega (arith, n, c .before .before .before .before .before .before .held .ensures, c .before .before .if3 .left)))
 
 pub rest-refusal-spec : {M : Type 1} → statement M
 rest-refusal-spec =
@@ -59,6 +72,7 @@ rest-refusal-spec =
     (λ c. omega (arith, few c, small c))
     returns-2
     (λ c κs. let p = c .before .before .before .before .before .before .pre in (p .0, in-range _ _ _ (p .1) .blocks))
-    (λ c κs. (c .before .before .before .before .before .before .before .pre .0, omega (arith, length-is (c .before .before), c .before .if2 .left)))
+    returns-3
+    (λ c κs. (c .before .before .before .before .before .before .before .before .pre .0, omega (arith, sized (c .before .before))))
     (λ c κs. search needs)
-    returns-3)
+    returns-4)
