@@ -3,28 +3,36 @@
 use mathlib.Core.Path.{_≡_, refl, sym, ap, ap₂, _∙_, subst}
 use mathlib.Core.Bool.{Bool, true, false}
 use mathlib.Core.List.{List}
-use Prim.Native.Nat.{ℕ}
+use mathlib.Core.Logic.{_↔_}
+use Prim.Native.Nat.{ℕ, _*_, _≤_}
 use native.Mathlib.Omega.{arith}
 use lib.ListN.{length, take, drop, length-map}
 use lib.Seq.{take-append-seam}
+use Rattle.boxes.specs.Box.{namesIn}
 use Rattle.repair.specs.declared.Session.{Session}
 use Rattle.repair.specs.declared.Written.{Written}
+use Rattle.repair.specs.declared.ReadOut.{ReadOut}
 use Rattle.repair.specs.Boxed.{readBox, nodesRead, written}
 use Rattle.repair.specs.ReadOut.{readOut}
-use Rattle.repair.specs.Calls.{Move, heldAfter}
+use Rattle.repair.specs.Repairs.{ran, nodesRan}
+use Rattle.repair.specs.Calls.{Move, Held, heldAfter}
 use Rattle.repair.specs.LeftOver.{lastSession}
 use Rattle.repair.specs.RepairClaims.{LiveAreOwn, OwnClaims}
-use Rattle.repair.specs.WholeWay.{Way, startOf, nodesEncoded, boxAway}
+use Rattle.repair.specs.WholeWay.{OutWhereOpen, Way, startOf, nodesEncoded, boxAway, heldAt, WholeWay}
 use Rattle.repair.proofs.Proved.{write-read-claim}
 use Rattle.repair.proofs.LeftOverProved.{demand-3}
 use Rattle.repair.proofs.RepairsProved.{own-claim}
 use Rattle.repair.proofs.WholeWayProved.{whole-way-claim}
 use Rattle.mogtriz.specs.declared.sessions.MarkedSession.{MarkedSession}
 use Rattle.mogtriz.specs.declared.sessions.WriteAnswer.{WriteAnswer}
-use Rattle.mogtriz.specs.Sessions.{markOf, someAbove1, sessionForC, sessionOfC}
-use Rattle.mogtriz.specs.Claims.{Demand3C, OwnC, OwnCClaim, boxAwayC, WholeWayCClaim}
+use Rattle.mogtriz.specs.declared.sessions.ReadOutAnswer.{ReadOutAnswer}
+use Rattle.mogtriz.specs.declared.repairs.RepairsAnswer.{RepairsAnswer}
+use Rattle.mogtriz.specs.Sessions.{markOf, someAbove1, sessionForC, sessionOfC, readOutC}
+use Rattle.mogtriz.specs.Repairs.{ranC, nodesRanC}
+use Rattle.mogtriz.specs.Claims.{Demand3C, OwnC, OwnCClaim, boxAwayC, heldAtC, OnTheWayC, OutWhereOpenC, WholeWayCClaim}
 use Rattle.mogtriz.proofs.MarkLaws.{byte-at}
 use Rattle.mogtriz.proofs.Proved.{there-and-back, back-and-there, agree-claim}
+use Rattle.mogtriz.proofs.AnswerLaws.{read-out-kept}
 use Rattle.mogtriz.proofs.CallLaws.{last-agrees, held-agrees, held-stays, not-read}
 
 pub demand-3-c : Demand3C
@@ -73,9 +81,62 @@ box-agrees way h =
     ∙ ap₂ (λ (r : Written) (b : List ℕ). take (r .length) b) (c .answer) (c .rest)
     ∙ take-append-seam (boxAway way) (drop (length (boxAway way)) (way .out))
 
+-- an answer of read out, by its parts
+parts : (r : ReadOut) (refusal block : ℕ) (s : Session) → r .refusal ≡ refusal → r .block ≡ block → r .session ≡ s → r ≡ record { refusal = refusal; block = block; session = s }
+parts r refusal block s p q k = rw (sym p, sym q, sym k)
+
+-- C is told what the session's own read out gives
+told : (s : Session) (nodes result : List ℕ) (refusal block : ℕ)
+    → (readOutC (sessionForC s) nodes result ≡ record { refusal = refusal; block = block; session = sessionForC s })
+    ↔ (readOut s nodes result ≡ record { refusal = refusal; block = block; session = s })
+told s nodes result refusal block =
+    let c = agree-claim s .read-out nodes result in (
+      (λ h.
+          let same = sym c ∙ h in
+          parts (readOut s nodes result) refusal block s (ap (λ (r : ReadOutAnswer). r .refusal) same) (ap (λ (r : ReadOutAnswer). r .block) same) (read-out-kept s nodes result)),
+      (λ h. c ∙ rw h),
+    )
+
+out-agrees : (s : Session) (nodes result list : List ℕ) (M : ℕ) → OutWhereOpen s nodes result list M → OutWhereOpenC (sessionForC s) nodes result list M
+out-agrees s nodes result list M o =
+    record {
+      accepted = let t = told s nodes result 0 0 in ((λ h. o .accepted .0 (t .0 h)), (λ n. t .1 (o .accepted .1 n)));
+      refused = λ i. let t = told s nodes result 14 i in ((λ h. o .refused i .0 (t .0 h)), (λ l. t .1 (o .refused i .1 l)));
+    }
+
+module _ (way : Way) (on : OnTheWayC way) (moves : List Move) where
+  writes : written (startOf way .session) (nodesEncoded way) (way .list) (way .out) .refusal ≡ 0
+  writes = sym (ap (λ (r : WriteAnswer). r .refusal) (agree-claim (startOf way .session) .write (nodesEncoded way) (way .list) (way .out))) ∙ on .write
+
+  same : boxAwayC way ≡ boxAway way
+  same = box-agrees way writes
+
+  whole : WholeWay way moves
+  whole = whole-way-claim way (record { encode = on .encode; start = on .start; write = writes; read = rw same at (on .read) }) moves
+
+  abbrev at-end : Held
+  at-end = heldAt way moves
+
+  held-is : heldAtC way moves ≡ record { session = sessionForC (at-end .session); nodes = at-end .nodes }
+  held-is = rw same (held-agrees (readBox (boxAway way) (way .other) .session) (nodesRead (boxAway way) (way .other)) moves)
+
+  own-read : OwnC (way .object) (sessionForC (readBox (boxAway way) (way .other) .session)) (nodesRead (boxAway way) (way .other)) moves
+  own-read = own-agrees (way .object) (readBox (boxAway way) (way .other) .session) (nodesRead (boxAway way) (way .other)) moves (record { live = whole .live; out = whole .out })
+
+  run-is : ranC (sessionForC (at-end .session)) (at-end .nodes) .session ≡ sessionForC (ran (at-end .session) (at-end .nodes) .session)
+  run-is = ap (λ (r : RepairsAnswer). r .session) (agree-claim (at-end .session) .run (at-end .nodes))
+
+  back : (result : List ℕ) → length result ≡ way .k * way .len → (M : ℕ) → 1 ≤ M
+      → OutWhereOpenC (ranC (sessionForC (at-end .session)) (at-end .nodes) .session) (nodesRanC (sessionForC (at-end .session)) (at-end .nodes)) result (namesIn (boxAway way)) M
+  back result size M some =
+      rw (run-is, agree-claim (at-end .session) .run-nodes (at-end .nodes))
+      (out-agrees (ran (at-end .session) (at-end .nodes) .session) (nodesRan (at-end .session) (at-end .nodes)) result (namesIn (boxAway way)) M (whole .back result size M some))
+
 pub whole-way-c-claim : WholeWayCClaim
 whole-way-c-claim way on moves =
-    let writes = sym (ap (λ (r : WriteAnswer). r .refusal) (agree-claim (startOf way .session) .write (nodesEncoded way) (way .list) (way .out))) ∙ on .write in
-    let same = box-agrees way writes in
-    let whole = whole-way-claim way (record { encode = on .encode; start = on .start; write = writes; read = rw same at (on .read) }) moves in
-    rw same (own-agrees (way .object) (readBox (boxAway way) (way .other) .session) (nodesRead (boxAway way) (way .other)) moves (record { live = whole .live; out = whole .out }))
+    let held = held-is way on moves in
+    record {
+      own = rw (same way on moves) (own-read way on moves);
+      runs = rw (held, agree-claim (heldAt way moves .session) .run (heldAt way moves .nodes)) (whole way on moves .runs);
+      back = λ result size M some. rw (held, same way on moves) (back way on moves result size M some);
+    }

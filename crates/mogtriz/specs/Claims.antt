@@ -8,7 +8,7 @@ use Prim.Native.Nat.{ℕ, _*_, _≤_, _<_}
 use lib.ListN.{length, getD, take, drop}
 use Rattle.families.specs.Families.{familyOf, IsNode}
 use Rattle.encoding.specs.Encode.{encodeAnswer}
-use Rattle.boxes.specs.Box.{bodyOf}
+use Rattle.boxes.specs.Box.{namesIn, bodyOf}
 use Rattle.planning.specs.Pairs.{NoPairLeft}
 use Rattle.leftover.specs.Open.{Open, OpenCount}
 use Rattle.repair.specs.declared.Session.{Session}
@@ -21,11 +21,11 @@ use Rattle.repair.specs.Repairs.{planned, outPlanned, ran, nodesRan}
 use Rattle.repair.specs.Calls.{Move, run, Call, liveAfter}
 use Rattle.repair.specs.LeftOver.{isIn}
 use Rattle.repair.specs.RepairClaims.{LiveAreOwn}
-use Rattle.repair.specs.WholeWay.{Way, startOf, nodesEncoded}
+use Rattle.repair.specs.WholeWay.{LowestOpen, NoneOpen, Way, startOf, nodesEncoded}
 use Rattle.mogtriz.specs.declared.sessions.MarkedSession.{MarkedSession}
 use Rattle.mogtriz.specs.Sessions.{someAbove1, sessionForC, sessionOfC, startedC, writtenC, outWrittenC, readOutC, objectOutC, partIn}
 use Rattle.mogtriz.specs.Repairs.{steppedC, nodesSteppedC, plannedC, outPlannedC, ranC, nodesRanC}
-use Rattle.mogtriz.specs.Calls.{lastSessionC, heldAfterC}
+use Rattle.mogtriz.specs.Calls.{lastSessionC, HeldC, heldAfterC}
 
 -- ---- a session handed to C and back
 
@@ -167,8 +167,25 @@ pub record OnTheWayC (way : Way) : Type 0 where
   pub write : writtenC (startOfC way) (nodesEncoded way) (way .list) (way .out) .refusal ≡ 0
   pub read : startedC (readBox (boxAwayC way) (way .other)) .refusal ≡ 0
 
--- the object encoded, written, read into a buffer of any content, taken through any list of mogtriz_step and mogtriz_run: what
--- mogtriz_read_out then leaves, where it is accepted, is the object
+-- session and buffer once the box is read and a list of mogtriz_step and mogtriz_run made, refused ones included
+abbrev pub heldAtC : Way → List Move → HeldC
+heldAtC way moves = heldAfterC (startedC (readBox (boxAwayC way) (way .other)) .session) (nodesRead (boxAwayC way) (way .other)) moves
+
+-- mogtriz_read_out is accepted exactly where no data block's node is open, and turned away with 14 and block i exactly where i is the
+-- lowest whose node is
+pub record OutWhereOpenC (s : MarkedSession) (nodes result list : List ℕ) (M : ℕ) : Type 0 where
+  pub accepted : (readOutC s nodes result ≡ record { refusal = 0; block = 0; session = s }) ↔ NoneOpen (s .family) (s .k) M list
+  pub refused : (i : ℕ) → (readOutC s nodes result ≡ record { refusal = 14; block = i; session = s }) ↔ LowestOpen (s .family) (s .k) M list i
+
+pub record WholeWayC (way : Way) (moves : List Move) : Type 0 where
+  -- every live block is the object's, and what mogtriz_read_out leaves, where it is accepted, is the object
+  pub own : OwnC (way .object) (startedC (readBox (boxAwayC way) (way .other)) .session) (nodesRead (boxAwayC way) (way .other)) moves
+  -- after one more mogtriz_run, which is accepted, that is exactly where no data block's node is open
+  pub runs : ranC (heldAtC way moves .session) (heldAtC way moves .nodes) .refusal ≡ 0
+  pub back : (result : List ℕ) → length result ≡ way .k * way .len → (M : ℕ) → 1 ≤ M
+      → OutWhereOpenC (ranC (heldAtC way moves .session) (heldAtC way moves .nodes) .session) (nodesRanC (heldAtC way moves .session) (heldAtC way moves .nodes)) result
+      (namesIn (boxAwayC way)) M
+
+-- for every family, k, L and object, every start and list that are accepted, every buffer, and every list of calls
 abbrev pub WholeWayCClaim : Type 0
-WholeWayCClaim = (way : Way) → OnTheWayC way → (moves : List Move)
-    → OwnC (way .object) (startedC (readBox (boxAwayC way) (way .other)) .session) (nodesRead (boxAwayC way) (way .other)) moves
+WholeWayCClaim = (way : Way) → OnTheWayC way → (moves : List Move) → WholeWayC way moves

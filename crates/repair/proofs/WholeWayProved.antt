@@ -37,7 +37,7 @@ use Rattle.repair.specs.Calls.{Move, run, sessionAfter, nodesAfter, Call
 use Rattle.repair.specs.LeftOver.{isIn, lastSession, LeftOver}
 use Rattle.repair.specs.Claims.{boxWritten}
 use Rattle.repair.specs.RepairClaims.{LiveAreOwn, OwnClaims}
-use Rattle.repair.specs.WholeWay.{Fits, FitsClaim, WriteLiveClaim, BodiesAreOwn, OwnBoxClaim, MissingOpenClaim, LowestOpen, OutWhereOpen, OutAfterRunClaim, Way, startOf, nodesEncoded, boxAway, heldAt, OnTheWay, WholeWayClaim}
+use Rattle.repair.specs.WholeWay.{Fits, FitsClaim, WriteLiveClaim, BodiesAreOwn, OwnBoxClaim, MissingOpenClaim, LowestOpen, NoneOpen, OutWhereOpen, OutAfterRunClaim, Way, startOf, nodesEncoded, boxAway, heldAt, OnTheWay, WholeWayClaim}
 use Rattle.repair.proofs.Accepted.{start-accepted, check-accepted, read-accepted, write-accepted, run-accepted}
 use Rattle.repair.proofs.StartLaws.{known, nodes-0}
 use Rattle.repair.proofs.ReadOutLaws.{by-block, accepted-out, read}
@@ -244,10 +244,10 @@ module _ (s : Session) (nodes result list : List ℕ) (M : ℕ) (fits : Fits s n
   pub out-where-open : OutWhereOpen s nodes result list M
   out-where-open = record { accepted = (all-shut, all-there); refused = λ i. (lowest i, first i) }
     where
-      all-shut : readOut s nodes result ≡ record { refusal = 0; block = 0; session = s } → (i : ℕ) → 1 ≤ i → i ≤ s .k → Open code (s .k) M list (dataNode code (s .k) i) → ⊥
+      all-shut : readOut s nodes result ≡ record { refusal = 0; block = 0; session = s } → NoneOpen (s .family) (s .k) M list
       all-shut is i l h = there-shut i l h (first-zero gone 1 (s .k) (omega arith) (sym is-missing ∙ told 0 0 is) i l (omega arith))
 
-      all-there : ((i : ℕ) → 1 ≤ i → i ≤ s .k → Open code (s .k) M list (dataNode code (s .k) i) → ⊥) → readOut s nodes result ≡ record { refusal = 0; block = 0; session = s }
+      all-there : NoneOpen (s .family) (s .k) M list → readOut s nodes result ≡ record { refusal = 0; block = 0; session = s }
       all-there n = none-missing (is-missing ∙ first-none gone 1 (s .k) (λ i l h. shut-there i l (omega arith) (n i l (omega arith))))
 
       lowest : (i : ℕ) → readOut s nodes result ≡ record { refusal = 14; block = i; session = s } → LowestOpen (s .family) (s .k) M list i

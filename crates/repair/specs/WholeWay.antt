@@ -94,11 +94,14 @@ pub record LowestOpen (family k M : ℕ) (list : List ℕ) (i : ℕ) : Type 0 wh
   pub is-open : Open (familyOf family) k M list (dataNode (familyOf family) k i)
   pub lowest : (m : ℕ) → 1 ≤ m → m < i → Open (familyOf family) k M list (dataNode (familyOf family) k m) → ⊥
 
+-- no data block's node is open
+abbrev pub NoneOpen : ℕ → ℕ → ℕ → List ℕ → Type 0
+NoneOpen family k M list = (i : ℕ) → 1 ≤ i → i ≤ k → Open (familyOf family) k M list (dataNode (familyOf family) k i) → ⊥
+
 -- read out is accepted exactly where no data block's node is open, and turned away with 14 and block i exactly where i is the
 -- lowest whose node is
 pub record OutWhereOpen (s : Session) (nodes result list : List ℕ) (M : ℕ) : Type 0 where
-  pub accepted : (readOut s nodes result ≡ record { refusal = 0; block = 0; session = s })
-      ↔ ((i : ℕ) → 1 ≤ i → i ≤ s .k → Open (familyOf (s .family)) (s .k) M list (dataNode (familyOf (s .family)) (s .k) i) → ⊥)
+  pub accepted : (readOut s nodes result ≡ record { refusal = 0; block = 0; session = s }) ↔ NoneOpen (s .family) (s .k) M list
   pub refused : (i : ℕ) → (readOut s nodes result ≡ record { refusal = 14; block = i; session = s }) ↔ LowestOpen (s .family) (s .k) M list i
 
 -- so it is after an accepted run, in any list of calls from a start, for every nodes buffer and object of the right length
