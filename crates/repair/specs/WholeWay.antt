@@ -157,8 +157,8 @@ pub record WholeWay (way : Way) (moves : List Move) : Type 0 where
   -- where read out is accepted it gives the object
   pub out : (result : List ℕ) → readOut (heldAt way moves .session) (heldAt way moves .nodes) result .refusal ≡ 0
       → objectOut (heldAt way moves .session) (heldAt way moves .nodes) result ≡ way .object
-  -- after one more run, which is accepted, that is exactly where no data block's node is open: where one is, another object has
-  -- the same bodies in the box
+  -- after one more run, which is accepted, that is exactly where no data block's node is open: where one is, two objects alike on
+  -- every node of the box differ there
   pub runs : ran (heldAt way moves .session) (heldAt way moves .nodes) .refusal ≡ 0
   pub back : (result : List ℕ) → length result ≡ way .k * way .len → (M : ℕ) → 1 ≤ M
       → OutWhereOpen (ran (heldAt way moves .session) (heldAt way moves .nodes) .session) (nodesRan (heldAt way moves .session) (heldAt way moves .nodes)) result
