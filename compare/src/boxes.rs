@@ -1,6 +1,6 @@
 //! Sessions and boxes from the papers alone: for each operation its answer, and what it writes.
-use crate::answers::{MARKS, Part, ReadOut, Session, Started, Written};
 use crate::papers::{checked_node_count, code, node_count};
+use mogtriz::raw::{MARKS, Part, ReadOut, Session, Started, Written};
 
 /// How many bytes stand before a box's node numbers.
 pub const HEAD: usize = 8;

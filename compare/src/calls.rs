@@ -1,9 +1,9 @@
 //! One call made of the library and of the papers' model: what it gives and every byte lent have to agree.
 //! Each function gives the call's number; those that go on from a session give the answer. Where the Rust package leaves
 //! out a part of the answer, the call is made of C besides: it writes the same bytes again.
-use crate::answers::{Repairs, Session, Stepped};
 use crate::guarded::Guarded;
-use crate::{boxes, library, planner, raw};
+use crate::{boxes, library, planner};
+use mogtriz::raw::{self, Repairs, Session, Stepped};
 
 /// The bytes of a message, cut where they would fill the screen.
 fn shown(bytes: &[u8]) -> String {

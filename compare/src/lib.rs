@@ -2,7 +2,6 @@
 //! hold against them.
 #![deny(unsafe_code)]
 
-pub mod answers;
 pub mod boxes;
 pub mod calls;
 pub mod guarded;
@@ -14,8 +13,6 @@ mod pages;
 pub mod papers;
 pub mod planner;
 pub mod random;
-#[allow(unsafe_code)]
-pub mod raw;
 pub mod samples;
 pub mod tally;
 pub mod triples;

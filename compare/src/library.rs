@@ -1,6 +1,6 @@
 //! The library by its Rust package, its answers put as the papers have them. What a refusal comes with besides its number
-//! and session is not in the package's; the zeros here stand for it, and `raw` has what C gives.
-use crate::answers::{Part, ReadOut, Repairs, Session, Started, Stepped, Written};
+//! and session is not in the package's; the zeros here stand for it, and `mogtriz::raw` has what C gives.
+use mogtriz::raw::{Part, ReadOut, Repairs, Session, Started, Stepped, Written};
 use mogtriz::{Refusal, Refused};
 
 pub fn encode(family: usize, k: usize, len: usize, object: &[u8], nodes: &mut [u8]) -> u8 {

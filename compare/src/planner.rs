@@ -1,7 +1,7 @@
 //! Steps, plans and runs from the papers alone: for each its answer, and what it writes.
-use crate::answers::{Repairs, Session, Stepped};
 use crate::boxes::{block_at, check_nodes, check_session, live_nodes, missing_nodes};
 use crate::papers::{columns_of, xor_into};
+use mogtriz::raw::{Repairs, Session, Stepped};
 
 /// A step as a plan writes it: round, node, smaller, larger.
 pub type Step = [u8; 4];

@@ -1,8 +1,8 @@
 //! Shapes, node lists, sessions and lengths to call the library with, sound and faulty.
-use crate::answers::{MARKS, Session};
 use crate::boxes;
 use crate::papers::node_count;
 use crate::random::Random;
+use mogtriz::raw::{MARKS, Session};
 
 /// A family, k and L.
 #[derive(Clone, Copy, Debug)]

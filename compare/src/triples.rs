@@ -1,10 +1,10 @@
 //! The three numbers to call a step with, right and wrong: the node to repair and the two that it comes from.
-use crate::answers::Session;
 use crate::boxes::missing_nodes;
 use crate::papers::columns_of;
 use crate::planner::pairs;
 use crate::random::Random;
 use crate::samples::{Shape, wrong_number};
+use mogtriz::raw::Session;
 
 type Triple = [usize; 3];
 

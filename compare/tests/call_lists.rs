@@ -1,6 +1,5 @@
 //! Lists of steps and runs, right and wrong ones, each getting the session that the one before gave back: what is
 //! missing once no pair is left are the nodes that were open at the start, and runs and plans count just these.
-use compare::answers::Session;
 use compare::boxes::{check_session, live_nodes, missing_nodes};
 use compare::calls;
 use compare::live_sets::LiveSets;
@@ -11,6 +10,7 @@ use compare::random::Random;
 use compare::samples::{Shape, any_session, length_near};
 use compare::tally::Tally;
 use compare::triples::{any_triple, right_triple};
+use mogtriz::raw::Session;
 
 /// Room for the steps of any plan.
 const ROOM: usize = 4 * 255;

@@ -1,7 +1,8 @@
 //! The families over every k: node counts, columns, their inverse, and which nodes are related.
+use compare::library;
 use compare::papers::{Code, FAMILIES, every_code, node_count, range_of_k};
 use compare::random::Random;
-use compare::{library, raw};
+use mogtriz::raw;
 
 const LARGE: usize = 1 << 32;
 

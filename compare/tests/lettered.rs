@@ -1,8 +1,8 @@
 //! The lettered examples of the papers, as one table, through the C interface.
-use compare::answers::Session;
 use compare::boxes::missing_nodes;
 use compare::planner::Step;
 use compare::{calls, library};
+use mogtriz::raw::Session;
 
 /// What an example says, at L 1. A session is its family, k and live nodes.
 enum Example {

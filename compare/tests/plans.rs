@@ -1,6 +1,5 @@
 //! Plans and runs of sets of live nodes: every set of the small codes, and many of the others, against the
 //! papers' model and against the open nodes by elimination.
-use compare::answers::{Repairs, Session};
 use compare::boxes::{block_at, live_nodes, missing_nodes};
 use compare::guarded::Guarded;
 use compare::live_sets::LiveSets;
@@ -9,6 +8,7 @@ use compare::papers::{Code, every_code};
 use compare::random::Random;
 use compare::samples::{Shape, nodes_in};
 use compare::{calls, library};
+use mogtriz::raw::{Repairs, Session};
 
 /// What the sets came to.
 #[derive(Default)]

@@ -1,11 +1,11 @@
 //! What is put in comes out again: nodes through a box, a box through its nodes, an object through all of it.
-use compare::answers::{Session, Started};
 use compare::boxes::{self, HEAD, box_len};
 use compare::guarded::Guarded;
 use compare::library;
 use compare::papers::{Code, every_code};
 use compare::random::Random;
 use compare::samples::{Shape, shapes, some_of};
+use mogtriz::raw::{Session, Started};
 
 const LENGTHS: [usize; 4] = [1, 3, 64, 257];
 

@@ -1,6 +1,5 @@
 //! Starting, writing a box and reading out, against the papers' model, over sessions, lists and buffers of
 //! every content and length.
-use compare::answers::Session;
 use compare::boxes::{self, box_len, live_nodes};
 use compare::calls;
 use compare::papers::code;
@@ -10,6 +9,7 @@ use compare::samples::{
     sound_session, spoiled, spoiled_session, with_each_mark, wrong_len, wrong_length, wrong_number,
 };
 use compare::tally::{Tally, repeat};
+use mogtriz::raw::Session;
 
 /// Some of the nodes, with a fault or two in most lists.
 fn any_list(shape: Shape, random: &mut Random) -> Vec<u8> {

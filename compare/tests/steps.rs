@@ -1,6 +1,5 @@
 //! Single steps, plans and runs against the papers' model, over sessions, nodes and buffers of every content
 //! and length.
-use compare::answers::Session;
 use compare::boxes::check_session;
 use compare::calls;
 use compare::planner::plan_of;
@@ -11,6 +10,7 @@ use compare::samples::{
 };
 use compare::tally::{Tally, repeat};
 use compare::triples::{any_triple, right_triple};
+use mogtriz::raw::Session;
 
 /// What is done with a session, given a length for its nodes buffer.
 type Visit<'a> = &'a mut dyn FnMut(Shape, Session, usize, &mut Random) -> u8;

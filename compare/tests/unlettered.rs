@@ -1,6 +1,6 @@
 //! The examples of the papers that have no letter, as they are printed there.
-use compare::answers::MARKS;
 use compare::library;
+use mogtriz::raw::MARKS;
 
 /// Simplex 3, L 1, with nodes 4, 5 and 7.
 const PRINTED: [u8; 14] = [1, 3, 1, 0, 3, 0, 0, 0, 4, 5, 7, 4, 5, 7];

@@ -3,9 +3,9 @@
 use crate::input::{Input, MOST_BYTES};
 use crate::seen::Operation::{Body, Check, Plan, Read, ReadOut, Run, Write};
 use crate::seen::count;
-use compare::answers::Session;
 use compare::boxes::{self, HEAD, box_len, live_nodes};
 use compare::{calls, library};
+use mogtriz::raw::Session;
 
 pub fn compare(input: &mut Input) {
     let node = input.number();

@@ -3,11 +3,11 @@
 use crate::input::Input;
 use crate::seen::Operation::{Plan, ReadOut, Run, Start, Step, Write};
 use crate::seen::count;
-use compare::answers::Session;
 use compare::boxes::{self, box_len, live_nodes, missing_nodes};
 use compare::calls;
 use compare::open::open_nodes;
 use compare::planner::pairs;
+use mogtriz::raw::Session;
 
 struct List {
     session: Session,

@@ -1,6 +1,6 @@
 //! Numbers, lists and lengths out of the fuzzer's bytes. Where the bytes end all are 0.
-use compare::answers::Session;
 use compare::papers::node_count;
+use mogtriz::raw::Session;
 
 pub struct Input<'a>(pub &'a [u8]);
 

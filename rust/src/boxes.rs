@@ -95,9 +95,9 @@ impl Session {
     /// # Ok::<(), mogtriz::Refused>(())
     /// ```
     pub fn write(self, nodes: &[u8], list: &[u8], out: &mut [u8]) -> Result<Written, Refused> {
-        let answer = raw::write(self, nodes, list, out);
+        let answer = raw::write(self.0, nodes, list, out);
         Ok(Written {
-            session: answer.session.unless_refused(answer.refusal, 0)?,
+            session: Session::unless_refused(answer.session, answer.refusal, 0)?,
             length: answer.length,
         })
     }
@@ -119,7 +119,7 @@ impl Session {
     /// # Ok::<(), mogtriz::Refused>(())
     /// ```
     pub fn read_out(self, nodes: &[u8], object: &mut [u8]) -> Result<Session, Refused> {
-        let answer = raw::read_out(self, nodes, object);
-        answer.session.unless_refused(answer.refusal, answer.block)
+        let answer = raw::read_out(self.0, nodes, object);
+        Session::unless_refused(answer.session, answer.refusal, answer.block)
     }
 }

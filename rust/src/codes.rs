@@ -85,8 +85,7 @@ pub fn node_of_column(family: usize, k: usize, column: usize) -> Option<usize> {
 /// assert!(!mogtriz::related(mogtriz::SIMPLEX, 3, [1, 4, 7]));
 /// ```
 pub fn related(family: usize, k: usize, nodes: [usize; 3]) -> bool {
-    let [a, b, c] = nodes;
-    raw::mogtriz_related(family, k, a, b, c) == 1
+    raw::related(family, k, nodes) == 1
 }
 
 /// 0 stands for nothing: it is no n, no column and no node's number.

@@ -42,8 +42,9 @@
 
 mod boxes;
 mod codes;
-#[allow(unsafe_code)]
-mod raw;
+#[allow(unsafe_code, missing_docs)]
+#[doc(hidden)]
+pub mod raw;
 mod refusal;
 mod repair;
 mod session;

@@ -1,31 +1,58 @@
-//! The C interface, include/mogtriz.h; the only unsafe code here is its calls.
-use crate::Session;
+//! The C interface, include/mogtriz.h, as it stands: its calls and the layouts that cross them, declared for Rust here alone. The
+//! only unsafe code of the package is these calls. Hidden, as the package's own types are for callers; what is held against the
+//! library uses it too.
+use std::fmt;
 
-/// What a start, a box or a step gives.
+/// How many marks a session holds, by node number.
+pub const MARKS: usize = 256;
+
+/// C's mogtriz_session: 1 marks a live node and 0 a missing one, and a caller may hand in anything.
 #[repr(C)]
+#[derive(Clone, Copy, PartialEq, Eq, Hash)]
+pub struct Session {
+    pub family: usize,
+    pub k: usize,
+    pub len: usize,
+    pub live: [u8; MARKS],
+}
+
+/// C's mogtriz_started: what a start or a box gives.
+#[repr(C)]
+#[derive(Clone, Copy, Debug, PartialEq, Eq)]
 pub struct Started {
     pub refusal: u8,
     pub session: Session,
 }
 
-/// What writing a box gives.
+/// C's mogtriz_written: what writing a box gives, with the box's length.
 #[repr(C)]
+#[derive(Clone, Copy, Debug, PartialEq, Eq)]
 pub struct Written {
     pub refusal: u8,
     pub length: usize,
     pub session: Session,
 }
 
-/// What reading out gives.
+/// C's mogtriz_read_out_answer: what reading out gives, with the data block that goes with 14.
 #[repr(C)]
+#[derive(Clone, Copy, Debug, PartialEq, Eq)]
 pub struct ReadOut {
     pub refusal: u8,
     pub block: usize,
     pub session: Session,
 }
 
-/// What a plan or a run gives.
+/// C's mogtriz_stepped: what a step gives, with the next session.
 #[repr(C)]
+#[derive(Clone, Copy, Debug, PartialEq, Eq)]
+pub struct Stepped {
+    pub refusal: u8,
+    pub session: Session,
+}
+
+/// C's mogtriz_repairs: what a plan or a run gives, its counts, and the session, which for a run is the next one.
+#[repr(C)]
+#[derive(Clone, Copy, Debug, PartialEq, Eq)]
 pub struct Repairs {
     pub refusal: u8,
     pub steps: usize,
@@ -34,12 +61,22 @@ pub struct Repairs {
     pub session: Session,
 }
 
-/// Where a body lies in its box.
+/// C's mogtriz_part, a part of a box: `length` bytes from place `from` on.
 #[repr(C)]
+#[derive(Clone, Copy, Debug, PartialEq, Eq)]
 pub struct Part {
     pub refusal: u8,
     pub from: usize,
     pub length: usize,
+}
+
+/// Family, k, L, and the marks that are not 0, as most are.
+impl fmt::Debug for Session {
+    fn fmt(&self, f: &mut fmt::Formatter) -> fmt::Result {
+        write!(f, "family {} k {} L {} ", self.family, self.k, self.len)?;
+        let marked = self.live.iter().enumerate().filter(|(_, mark)| **mark != 0);
+        f.debug_map().entries(marked).finish()
+    }
 }
 
 unsafe extern "C" {
@@ -55,7 +92,7 @@ unsafe extern "C" {
     pub safe fn mogtriz_node_count(family: usize, k: usize) -> usize;
     pub safe fn mogtriz_column(family: usize, k: usize, node: usize) -> usize;
     pub safe fn mogtriz_node_of_column(family: usize, k: usize, column: usize) -> usize;
-    pub safe fn mogtriz_related(family: usize, k: usize, a: usize, b: usize, c: usize) -> u8;
+    safe fn mogtriz_related(family: usize, k: usize, a: usize, b: usize, c: usize) -> u8;
     fn mogtriz_start(
         family: usize,
         k: usize,
@@ -94,9 +131,15 @@ unsafe extern "C" {
         node: usize,
         first: usize,
         second: usize,
-    ) -> Started;
+    ) -> Stepped;
     fn mogtriz_plan(session: Session, out: *mut u8, out_len: usize) -> Repairs;
     fn mogtriz_run(session: Session, nodes: *mut u8, nodes_len: usize) -> Repairs;
+}
+
+/// 1 where three nodes are related, else 0.
+pub fn related(family: usize, k: usize, nodes: [usize; 3]) -> u8 {
+    let [a, b, c] = nodes;
+    mogtriz_related(family, k, a, b, c)
 }
 
 // SAFETY, for every call below: each pointer comes with the length of its slice, also of an empty one, and a slice
@@ -165,8 +208,9 @@ pub fn read_out(session: Session, nodes: &[u8], object: &mut [u8]) -> ReadOut {
     }
 }
 
-pub fn step(session: Session, nodes: &mut [u8], node: usize, pair: [usize; 2]) -> Started {
-    let [first, second] = pair;
+/// The triple is the node to repair and the two that it comes from.
+pub fn step(session: Session, nodes: &mut [u8], triple: [usize; 3]) -> Stepped {
+    let [node, first, second] = triple;
     // SAFETY: as above.
     unsafe {
         mogtriz_step(

@@ -41,7 +41,9 @@ impl Session {
     /// # Ok::<(), mogtriz::Refused>(())
     /// ```
     pub fn step(self, nodes: &mut [u8], node: usize, pair: [usize; 2]) -> Result<Session, Refused> {
-        Session::started(raw::step(self, nodes, node, pair))
+        let [first, second] = pair;
+        let answer = raw::step(self.0, nodes, [node, first, second]);
+        Session::unless_refused(answer.session, answer.refusal, 0)
     }
 
     /// The repairs to make, in rounds from 1. In a round every missing node with a related pair, both live when the
@@ -60,7 +62,7 @@ impl Session {
     /// # Ok::<(), mogtriz::Refused>(())
     /// ```
     pub fn plan(self, out: &mut [u8]) -> Result<Repairs, Refused> {
-        Repairs::from_answer(raw::plan(self, out))
+        Repairs::from_answer(raw::plan(self.0, out))
     }
 
     /// The plan carried out on the nodes buffer; the next session has the repaired nodes live. Blocks of live nodes and
@@ -78,14 +80,14 @@ impl Session {
     /// # Ok::<(), mogtriz::Refused>(())
     /// ```
     pub fn run(self, nodes: &mut [u8]) -> Result<Repairs, Refused> {
-        Repairs::from_answer(raw::run(self, nodes))
+        Repairs::from_answer(raw::run(self.0, nodes))
     }
 }
 
 impl Repairs {
     fn from_answer(answer: raw::Repairs) -> Result<Repairs, Refused> {
         Ok(Repairs {
-            session: answer.session.unless_refused(answer.refusal, 0)?,
+            session: Session::unless_refused(answer.session, answer.refusal, 0)?,
             steps: answer.steps,
             rounds: answer.rounds,
             left: answer.left,

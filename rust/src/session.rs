@@ -10,7 +10,7 @@ use std::fmt;
 /// assert_eq!(session.marks().len(), mogtriz::MARKS);
 /// # Ok::<(), mogtriz::Refused>(())
 /// ```
-pub const MARKS: usize = 256;
+pub const MARKS: usize = raw::MARKS;
 
 /// A family, k, L, and a mark for each node: live or missing.
 ///
@@ -27,14 +27,8 @@ pub const MARKS: usize = 256;
 /// assert_eq!(session.missing_nodes().collect::<Vec<_>>(), [2, 3]);
 /// # Ok::<(), mogtriz::Refused>(())
 /// ```
-#[repr(C)]
 #[derive(Clone, PartialEq, Eq, Hash)]
-pub struct Session {
-    family: usize,
-    k: usize,
-    len: usize,
-    marks: [u8; MARKS],
-}
+pub struct Session(pub(crate) raw::Session);
 
 impl Session {
     /// A session with the nodes of a list live, a byte a node, strictly rising; an empty list sets none.
@@ -71,12 +65,12 @@ impl Session {
     /// # Ok::<(), mogtriz::Refused>(())
     /// ```
     pub fn from_parts(family: usize, k: usize, len: usize, marks: [u8; MARKS]) -> Session {
-        Session {
+        Session(raw::Session {
             family,
             k,
             len,
-            marks,
-        }
+            live: marks,
+        })
     }
 
     /// The family's number.
@@ -87,7 +81,7 @@ impl Session {
     /// # Ok::<(), mogtriz::Refused>(())
     /// ```
     pub fn family(&self) -> usize {
-        self.family
+        self.0.family
     }
 
     /// The number of data blocks.
@@ -98,7 +92,7 @@ impl Session {
     /// # Ok::<(), mogtriz::Refused>(())
     /// ```
     pub fn k(&self) -> usize {
-        self.k
+        self.0.k
     }
 
     /// L, the length of a block in bytes.
@@ -109,7 +103,7 @@ impl Session {
     /// # Ok::<(), mogtriz::Refused>(())
     /// ```
     pub fn block_len(&self) -> usize {
-        self.len
+        self.0.len
     }
 
     /// The marks by node number: 1 live, 0 missing.
@@ -120,7 +114,7 @@ impl Session {
     /// # Ok::<(), mogtriz::Refused>(())
     /// ```
     pub fn marks(&self) -> &[u8; MARKS] {
-        &self.marks
+        &self.0.live
     }
 
     /// Whether a node is marked live.
@@ -131,7 +125,7 @@ impl Session {
     /// # Ok::<(), mogtriz::Refused>(())
     /// ```
     pub fn is_live(&self, node: usize) -> bool {
-        self.marks.get(node) == Some(&1)
+        self.0.live.get(node) == Some(&1)
     }
 
     /// The numbers that are marked live, rising; they are a list for [`start`](Session::start).
@@ -153,24 +147,26 @@ impl Session {
     /// # Ok::<(), mogtriz::Refused>(())
     /// ```
     pub fn missing_nodes(&self) -> impl Iterator<Item = u8> {
-        let n = node_count(self.family, self.k).unwrap_or(0);
+        let n = node_count(self.0.family, self.0.k).unwrap_or(0);
         let nodes = (1..=255).take(n);
         nodes.filter(|&node| !self.is_live(usize::from(node)))
     }
 
     /// The session, unless there is a refusal beside it.
     pub(crate) fn started(answer: raw::Started) -> Result<Session, Refused> {
-        answer.session.unless_refused(answer.refusal, 0)
+        Session::unless_refused(answer.session, answer.refusal, 0)
     }
 
     /// The session, unless the number, with its block, is that of a refusal.
-    pub(crate) fn unless_refused(self, number: u8, block: usize) -> Result<Session, Refused> {
+    pub(crate) fn unless_refused(
+        session: raw::Session,
+        number: u8,
+        block: usize,
+    ) -> Result<Session, Refused> {
+        let session = Session(session);
         match Refusal::from_number(number, block) {
-            None => Ok(self),
-            Some(refusal) => Err(Refused {
-                refusal,
-                session: self,
-            }),
+            None => Ok(session),
+            Some(refusal) => Err(Refused { refusal, session }),
         }
     }
 }
@@ -178,12 +174,6 @@ impl Session {
 /// Family, k, L, and the marks that are not 0.
 impl fmt::Debug for Session {
     fn fmt(&self, f: &mut fmt::Formatter) -> fmt::Result {
-        write!(f, "family {} k {} L {} ", self.family, self.k, self.len)?;
-        let marked = self
-            .marks
-            .iter()
-            .enumerate()
-            .filter(|(_, mark)| **mark != 0);
-        f.debug_map().entries(marked).finish()
+        self.0.fmt(f)
     }
 }

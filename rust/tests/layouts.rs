@@ -1,0 +1,102 @@
+//! The layouts that cross the C interface: each struct of include/mogtriz.h has in C the size, the fields and their places that it
+//! has in `raw`, and the header has no other.
+use mogtriz::raw::{Part, ReadOut, Repairs, Session, Started, Stepped, Written};
+use std::fmt::Write;
+use std::fs;
+use std::mem::{offset_of, size_of};
+use std::path::Path;
+use std::process::Command;
+
+const HEADER: &str = concat!(env!("CARGO_MANIFEST_DIR"), "/../include/mogtriz.h");
+
+/// A line for a struct and one for each field. The pattern names every field, or it is no Rust.
+macro_rules! layout {
+    ($name:literal $of:ident { $($field:ident),* }) => {{
+        let _: fn($of) = |$of { $($field: _),* }| ();
+        let mut lines = format!("{} size {}\n", $name, size_of::<$of>());
+        $(
+            let (place, size) = (offset_of!($of, $field), size_of_field(|of: &$of| &of.$field));
+            let field = stringify!($field);
+            lines += &format!("{}.{field} at {place} size {size}\n", $name);
+        )*
+        lines
+    }};
+}
+
+fn size_of_field<Of, Field>(_: fn(&Of) -> &Field) -> usize {
+    size_of::<Field>()
+}
+
+/// In the order of the header.
+fn layouts_in_rust() -> String {
+    [
+        layout!("mogtriz_session" Session { family, k, len, live }),
+        layout!("mogtriz_started" Started { refusal, session }),
+        layout!("mogtriz_written" Written { refusal, length, session }),
+        layout!("mogtriz_read_out_answer" ReadOut { refusal, block, session }),
+        layout!("mogtriz_stepped" Stepped { refusal, session }),
+        layout!("mogtriz_repairs" Repairs { refusal, steps, rounds, left, session }),
+        layout!("mogtriz_part" Part { refusal, from, length }),
+    ]
+    .concat()
+}
+
+/// The structs that the header defines, each with its name and those of its fields.
+fn structs(header: &str) -> Vec<(&str, Vec<&str>)> {
+    let bodies = header.split("typedef struct {").skip(1);
+    let named = bodies.map(|rest| {
+        let (body, after) = rest.split_once('}').expect("the struct's end");
+        let (name, _) = after.split_once(';').expect("the struct's name");
+        (
+            name.trim(),
+            body.split_terminator(';').filter_map(field_name).collect(),
+        )
+    });
+    named.collect()
+}
+
+/// `live` of `uint8_t live[256]`.
+fn field_name(declaration: &str) -> Option<&str> {
+    let last = declaration.split_whitespace().last()?;
+    last.split('[').next()
+}
+
+/// A program in C that prints what Rust's lines say.
+fn program(header: &str) -> String {
+    let mut lines = String::new();
+    for (name, fields) in structs(header) {
+        let _ = writeln!(lines, r#"    printf("{name} size %zu\n", sizeof({name}));"#);
+        for field in fields {
+            let place = format!("offsetof({name}, {field})");
+            let size = format!("sizeof((({name} *)0)->{field})");
+            let _ = writeln!(
+                lines,
+                r#"    printf("{name}.{field} at %zu size %zu\n", {place}, {size});"#
+            );
+        }
+    }
+    format!(
+        "#include <stdio.h>\n#include \"{HEADER}\"\nint main(void)\n{{\n{lines}    return 0;\n}}\n"
+    )
+}
+
+fn layouts_in_c() -> String {
+    let folder = Path::new(env!("CARGO_TARGET_TMPDIR"));
+    let [source, made] = ["layouts.c", "layouts"].map(|name| folder.join(name));
+    let header = fs::read_to_string(HEADER).expect("the header");
+    assert_eq!(structs(&header).len(), header.matches("typedef").count());
+    fs::write(&source, program(&header)).expect("a place for the program in C");
+    let compiled = Command::new("cc")
+        .arg(&source)
+        .arg("-o")
+        .arg(&made)
+        .status();
+    assert!(compiled.expect("cc").success(), "{}", source.display());
+    let printed = Command::new(&made).output().expect("the program in C");
+    String::from_utf8(printed.stdout).expect("text")
+}
+
+#[test]
+fn layouts_in_rust_are_those_in_c() {
+    assert_eq!(layouts_in_rust(), layouts_in_c());
+}
