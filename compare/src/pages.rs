@@ -5,7 +5,7 @@ use std::ptr;
 use std::slice;
 
 /// The bytes of a stretch between two shut pages: as much as the largest buffers take, which are of 255 blocks of
-/// 4,096 bytes and some more.
+/// the largest L and some more.
 pub const ROOM: usize = 1 << 21;
 
 const PAGE: usize = 4096;

@@ -1,6 +1,6 @@
 //! Shapes, node lists, sessions and lengths to call the library with, sound and faulty.
 use crate::boxes;
-use crate::papers::node_count;
+use crate::papers::{MOST_LENGTH, node_count};
 use crate::random::Random;
 use mogtriz::raw::{MARKS, Session};
 
@@ -62,7 +62,7 @@ pub fn shapes() -> Vec<Shape> {
         }
     }
     for (family, k) in few {
-        shapes.extend([255, 256, 257, 4096].map(|len| Shape { family, k, len }));
+        shapes.extend([255, 256, 257, MOST_LENGTH].map(|len| Shape { family, k, len }));
     }
     shapes
 }
@@ -175,7 +175,7 @@ pub fn wrong_number(right: usize, random: &mut Random) -> usize {
 /// An L that is out of range, or another in it.
 pub fn wrong_len(right: usize, random: &mut Random) -> usize {
     let other = wrong_number(right, random);
-    *random.of(&[0, 4096, 4097, 65_536, other])
+    *random.of(&[0, MOST_LENGTH, MOST_LENGTH + 1, 65_536, other])
 }
 
 /// A session of any content, near to one that a start gives or far from it.

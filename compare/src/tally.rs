@@ -1,8 +1,9 @@
 //! How many calls of one operation got each number, by kind of input.
 use crate::samples::{Shape, shapes};
+use mogtriz::raw::MOST_REFUSAL;
 
-/// The numbers that there are: 0 and the refusals.
-const NUMBERS: usize = 15;
+/// How many numbers there are: 0 and the refusals.
+pub const NUMBERS: usize = MOST_REFUSAL + 1;
 
 pub struct Tally {
     operation: &'static str,

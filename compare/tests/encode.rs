@@ -1,11 +1,13 @@
 //! Encoding against a multiplication by the generator matrix, for every family, k and a choice of L.
 use compare::guarded::Guarded;
 use compare::library;
-use compare::papers::{Code, every_code};
+use compare::papers::{Code, MOST_LENGTH, every_code};
 use compare::random::Random;
 
+const MOST: usize = MOST_LENGTH;
+
 // the small ones, those around the sizes of a chunk, and the largest
-const LENGTHS: [usize; 11] = [1, 2, 63, 64, 65, 127, 128, 129, 1536, 4095, 4096];
+const LENGTHS: [usize; 11] = [1, 2, 63, 64, 65, 127, 128, 129, 1536, MOST - 1, MOST];
 
 /// Encodes an object between guards and compares every node with the matrix.
 fn compare_with_matrix(code: &Code, len: usize, object: &[u8]) {

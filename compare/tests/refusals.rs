@@ -3,6 +3,7 @@ use compare::guarded::Guarded;
 use compare::library;
 use compare::papers::{Call, FAMILIES, MOST_LENGTH, code, encode_answer, node_count, range_of_k};
 use compare::random::Random;
+use compare::tally::NUMBERS;
 
 /// A family, k and L whose buffers the calls get, whether or not encode takes them.
 #[derive(Clone, Copy)]
@@ -32,9 +33,10 @@ impl Shape {
 
     fn lens(self) -> Vec<usize> {
         const LARGE: usize = (1 << 32) + 1;
+        const ABOVE: usize = MOST_LENGTH + 1;
         with_uncut(
             self.len,
-            &[self.len, 0, 4097, 65536, 65537, LARGE, usize::MAX],
+            &[self.len, 0, ABOVE, 65536, 65537, LARGE, usize::MAX],
         )
     }
 
@@ -63,7 +65,7 @@ fn shapes() -> Vec<Shape> {
             shapes.extend([1, 64].map(|len| Shape { family, k, len }));
         }
         let k = *range.start();
-        shapes.extend([4096, 4097, 65536].map(|len| Shape { family, k, len }));
+        shapes.extend([MOST_LENGTH, MOST_LENGTH + 1, 65536].map(|len| Shape { family, k, len }));
     }
     shapes
 }
@@ -78,7 +80,7 @@ const CONDITIONS: [usize; 4] = [1, 2, 3, 6];
 /// How many calls got each answer, and how many met two conditions at once.
 #[derive(Default)]
 struct Tally {
-    answers: [usize; 7],
+    answers: [usize; NUMBERS],
     together: [[usize; 4]; 4],
 }
 

@@ -6,6 +6,7 @@ use crate::seen::count;
 use compare::boxes::{self, box_len, live_nodes, missing_nodes};
 use compare::calls;
 use compare::open::open_nodes;
+use compare::papers::MOST_LENGTH;
 use compare::planner::pairs;
 use mogtriz::raw::Session;
 
@@ -107,7 +108,7 @@ impl List {
             0 => live_nodes(&self.session).len(),
             count => count,
         };
-        let exact = box_len(held, self.session.len.min(4096));
+        let exact = box_len(held, self.session.len.min(MOST_LENGTH));
         let room = input.length_near(exact);
         count(Write, calls::write(self.session, &self.nodes, &list, room));
     }

@@ -1,4 +1,5 @@
 //! How many calls of each operation got each number, printed when the fuzzer ends.
+use compare::tally::NUMBERS;
 use std::ffi::c_int;
 use std::sync::Once;
 use std::sync::atomic::{AtomicUsize, Ordering::Relaxed};
@@ -19,9 +20,6 @@ pub enum Operation {
 const NAMES: [&str; 9] = [
     "start", "check", "read", "body", "write", "read out", "step", "plan", "run",
 ];
-
-/// 0 and the refusals.
-const NUMBERS: usize = 15;
 
 static SEEN: [[AtomicUsize; NUMBERS]; NAMES.len()] =
     [const { [const { AtomicUsize::new(0) }; NUMBERS] }; NAMES.len()];

@@ -6,6 +6,9 @@ use std::fmt;
 /// How many marks a session holds, by node number.
 pub const MARKS: usize = 256;
 
+/// The largest number that a refusal has; tables by number have a place for each up to it, and for 0.
+pub const MOST_REFUSAL: usize = 14;
+
 /// C's mogtriz_session: 1 marks a live node and 0 a missing one, and a caller may hand in anything.
 #[repr(C)]
 #[derive(Clone, Copy, PartialEq, Eq, Hash)]

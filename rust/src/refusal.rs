@@ -46,10 +46,15 @@ pub enum Refusal {
         /// The lowest such block, from 1.
         block: usize,
     },
+    /// Any other number: the reason of a library that is newer than this package.
+    Unnamed {
+        /// The reason's number.
+        number: u8,
+    },
 }
 
 impl Refusal {
-    /// The reason's number, 1 to 14.
+    /// The reason's number, 1 to 14; above it for a reason that has no name here.
     ///
     /// ```
     /// use mogtriz::Refusal;
@@ -72,6 +77,7 @@ impl Refusal {
             Refusal::NodeMissing => 12,
             Refusal::NoSuchSession => 13,
             Refusal::BlockMissing { .. } => 14,
+            Refusal::Unnamed { number } => number,
         }
     }
 
@@ -93,7 +99,7 @@ impl Refusal {
             12 => Refusal::NodeMissing,
             13 => Refusal::NoSuchSession,
             14 => Refusal::BlockMissing { block },
-            _ => unreachable!("the library gives no number above 14"),
+            number => Refusal::Unnamed { number },
         };
         Some(refusal)
     }
@@ -114,6 +120,7 @@ impl Refusal {
             Refusal::NodeMissing => "a node to be read is missing",
             Refusal::NoSuchSession => "no start gives this session",
             Refusal::BlockMissing { .. } => "the node of a data block is missing",
+            Refusal::Unnamed { .. } => "a reason that has no name in this package",
         }
     }
 }
@@ -165,5 +172,29 @@ impl Error for Refused {}
 impl From<Refused> for Refusal {
     fn from(refused: Refused) -> Refusal {
         refused.refusal
+    }
+}
+
+#[cfg(test)]
+mod tests {
+    use super::*;
+    use crate::raw::MOST_REFUSAL;
+
+    #[test]
+    fn every_number_is_a_refusal_with_that_number() {
+        assert_eq!(Refusal::from_number(0, 1), None);
+        for number in 1..=u8::MAX {
+            let refusal = Refusal::from_number(number, 1).expect("a refusal");
+            assert_eq!(refusal.number(), number);
+            let named = !matches!(refusal, Refusal::Unnamed { .. });
+            assert_eq!(named, usize::from(number) <= MOST_REFUSAL, "{refusal}");
+        }
+    }
+
+    #[test]
+    fn a_number_without_a_name_is_told() {
+        let refusal = Refusal::from_number(200, 0).expect("a refusal");
+        let text = "refused 200: a reason that has no name in this package";
+        assert_eq!(refusal.to_string(), text);
     }
 }

@@ -1,4 +1,5 @@
 //! Every refusal is met by some call, with its number, its own sentence and the session handed back.
+use mogtriz::raw::MOST_REFUSAL;
 use mogtriz::{MARKS, Refusal, Refused, SIMPLEX, Session, body};
 use std::collections::BTreeSet;
 
@@ -22,7 +23,7 @@ fn step(node: usize, pair: [usize; 2]) -> Refused {
 }
 
 /// A call for each refusal, in the order of their numbers.
-fn one_of_each() -> [Refused; 14] {
+fn one_of_each() -> [Refused; MOST_REFUSAL] {
     let strange = Session::from_parts(SIMPLEX, 3, 1, [3; MARKS]);
     [
         start(usize::MAX, 3, 1, &[]),
@@ -44,8 +45,8 @@ fn one_of_each() -> [Refused; 14] {
 
 #[test]
 fn every_refusal_has_its_number() {
-    let numbers = one_of_each().map(|refused| refused.refusal.number());
-    assert!(numbers.into_iter().eq(1..=14), "{numbers:?}");
+    let numbers = one_of_each().map(|refused| usize::from(refused.refusal.number()));
+    assert!(numbers.into_iter().eq(1..=MOST_REFUSAL), "{numbers:?}");
 }
 
 #[test]
@@ -56,7 +57,7 @@ fn every_refusal_has_its_own_sentence() {
     }
     let sentence = |text: &String| text.split(": ").nth(1).map(String::from);
     let sentences: BTreeSet<_> = texts.iter().map(sentence).collect();
-    assert_eq!(sentences.len(), 14);
+    assert_eq!(sentences.len(), MOST_REFUSAL);
     assert!(texts[13].ends_with("block 2"), "{}", texts[13]);
 }
 
