@@ -28,6 +28,15 @@ extern "C" {
 #endif
 
 /*
+ * The version of this header, raised when a layout or an answer changes. Where the library's is another, what it takes and gives
+ * may be other than what is said here.
+ */
+#define MOGTRIZ_VERSION 1
+
+/* The library's version. */
+size_t mogtriz_version(void);
+
+/*
  * Fills the nodes buffer from an object, and gives 0. Otherwise it writes nothing and gives the number of the first of
  * these that is met:
  *   1  the family is not 1, 2 or 3

@@ -48,6 +48,7 @@ static mogtriz_session no_session(void)
 
 static void call_codes(void)
 {
+    EXPECT(mogtriz_version() == MOGTRIZ_VERSION);
     EXPECT(mogtriz_node_count(SIMPLEX, K) == N);
     EXPECT(mogtriz_node_count(SIMPLEX, 9) == 0);
     EXPECT(mogtriz_column(TETRAHEDRON, 4, 5) == 5);

@@ -48,6 +48,7 @@ pub mod raw;
 mod refusal;
 mod repair;
 mod session;
+mod version;
 
 pub use boxes::{Written, body};
 pub use codes::{
@@ -56,3 +57,4 @@ pub use codes::{
 pub use refusal::{Refusal, Refused};
 pub use repair::Repairs;
 pub use session::{MARKS, Session};
+pub use version::{VERSION, version};

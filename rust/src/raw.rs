@@ -3,6 +3,9 @@
 //! library uses it too.
 use std::fmt;
 
+/// MOGTRIZ_VERSION of the header that this is declared from.
+pub const VERSION: usize = 1;
+
 /// How many marks a session holds, by node number.
 pub const MARKS: usize = 256;
 
@@ -92,6 +95,7 @@ unsafe extern "C" {
         nodes: *mut u8,
         nodes_len: usize,
     ) -> u8;
+    pub safe fn mogtriz_version() -> usize;
     pub safe fn mogtriz_node_count(family: usize, k: usize) -> usize;
     pub safe fn mogtriz_column(family: usize, k: usize, node: usize) -> usize;
     pub safe fn mogtriz_node_of_column(family: usize, k: usize, column: usize) -> usize;

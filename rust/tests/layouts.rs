@@ -1,5 +1,5 @@
-//! The layouts that cross the C interface: each struct of include/mogtriz.h has in C the size, the fields and their places that it
-//! has in `raw`, and the header has no other.
+//! The version and the layouts of the C interface: each struct of include/mogtriz.h has in C the size, the fields and their places
+//! that it has in `raw`, and the header has no other.
 use mogtriz::raw::{Part, ReadOut, Repairs, Session, Started, Stepped, Written};
 use std::fmt::Write;
 use std::fs;
@@ -30,6 +30,7 @@ fn size_of_field<Of, Field>(_: fn(&Of) -> &Field) -> usize {
 /// In the order of the header.
 fn layouts_in_rust() -> String {
     [
+        format!("version {}\n", mogtriz::version()),
         layout!("mogtriz_session" Session { family, k, len, live }),
         layout!("mogtriz_started" Started { refusal, session }),
         layout!("mogtriz_written" Written { refusal, length, session }),
@@ -63,7 +64,7 @@ fn field_name(declaration: &str) -> Option<&str> {
 
 /// A program in C that prints what Rust's lines say.
 fn program(header: &str) -> String {
-    let mut lines = String::new();
+    let mut lines = String::from("    printf(\"version %d\\n\", MOGTRIZ_VERSION);\n");
     for (name, fields) in structs(header) {
         let _ = writeln!(lines, r#"    printf("{name} size %zu\n", sizeof({name}));"#);
         for field in fields {
@@ -97,6 +98,7 @@ fn layouts_in_c() -> String {
 }
 
 #[test]
-fn layouts_in_rust_are_those_in_c() {
+fn version_and_layouts_in_rust_are_those_in_c() {
+    assert_eq!(mogtriz::VERSION, mogtriz::version());
     assert_eq!(layouts_in_rust(), layouts_in_c());
 }

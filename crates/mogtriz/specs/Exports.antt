@@ -6,6 +6,10 @@ use Rattle.families.specs.Families.{familyOf, nodeCount, columnOf, nodeOf, areR
 use Rattle.checks.specs.Checks.{firstMet}
 use Rattle.checks.specs.Parameters.{parameterChecks}
 
+-- the version of the C interface, raised when a layout or an answer changes
+abbrev pub interfaceVersion : ℕ
+interfaceVersion = 1
+
 -- n; 0 where refusal 1 or 2 is due, whatever L is
 unfoldable pub nodeCountOr0 : ℕ → ℕ → ℕ
 nodeCountOr0 family k = cond (eqb (firstMet (parameterChecks family k 1)) 0) (nodeCount (familyOf family) k) 0

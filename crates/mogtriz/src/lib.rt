@@ -4,7 +4,15 @@ pub mod sessions;
 
 ghost use mathlib.Core.Path.{_≡_};
 ghost use Rattle.encoding.specs.Encode.{encodeAnswer, encoded};
-ghost use Rattle.mogtriz.specs.Exports.{nodeCountOr0, isNode, columnOr0, nodeOr0, relatedOr0};
+ghost use Rattle.mogtriz.specs.Exports.{interfaceVersion, nodeCountOr0, isNode, columnOr0, nodeOr0, relatedOr0};
+
+// The version of this interface, MOGTRIZ_VERSION of the header that it was made with.
+#[no_mangle]
+pub extern "C" fn mogtriz_version() -> usize
+    ensures { λ r. ⌜ r ≡ interfaceVersion ⌝ }
+{
+    1
+}
 
 // Encodes: 0, or the refusal's number, and then nothing is written.
 #[no_mangle]
