@@ -54,6 +54,11 @@ module _ (s : MarkedSession) where
   unfolding ranC
   run-back nodes = either (λ (r : RepairsAnswer). Back s (r .refusal) (r .session)) (someAbove1 (s .live)) thirteen (handed _ _)
 
+-- refused, the session that was handed in
+pub kept-session : (s : MarkedSession) (refusal : ℕ) (next : Session) → (refusal ≡ 0 → ⊥) → handedBack s refusal next ≡ s
+unfolding handedBack
+kept-session s refusal next h = rw (ne-eqb refusal 0 h)
+
 -- ---- the session's own operations
 
 module _ (s : Session) where

@@ -1,19 +1,22 @@
 -- The claims of specs/Claims.antt: a session handed to C and back, the session in an answer, and the calls that agree.
 -- Assumes nothing.
-use mathlib.Core.Path.{_≡_, refl}
-use mathlib.Core.Bool.{Bool, true, false}
+use mathlib.Core.Path.{_≡_, refl, sym, _∙_}
+use mathlib.Core.Bool.{Bool, true, false, false≢true}
+use mathlib.Core.Logic.{_⊎_, inl, inr}
 use lib.Dec.{eqb}
 use lib.ListN.{take, drop}
 use Rattle.checks.specs.Checks.{firstMet}
 use Rattle.boxes.specs.Box.{bodyChecks, bodyOf}
+use Rattle.repair.specs.Session.{noStart}
+use Rattle.repair.proofs.RefusalsProved.{refusal-claim, thirteen-claim}
 use Rattle.mogtriz.specs.declared.sessions.WriteAnswer.{WriteAnswer}
 use Rattle.mogtriz.specs.declared.sessions.ReadOutAnswer.{ReadOutAnswer}
 use Rattle.mogtriz.specs.declared.repairs.RepairsAnswer.{RepairsAnswer}
-use Rattle.mogtriz.specs.Sessions.{someAbove1, writtenC, outWrittenC, readOutC, objectOutC, partIn}
+use Rattle.mogtriz.specs.Sessions.{someAbove1, sessionOfC, writtenC, outWrittenC, readOutC, objectOutC, partIn}
 use Rattle.mogtriz.specs.Repairs.{steppedC, nodesSteppedC, plannedC, outPlannedC, ranC, nodesRanC}
-use Rattle.mogtriz.specs.Claims.{ThereAndBackClaim, BackAndThereClaim, StartedMarksClaim, HandedBackClaim, PartClaim, AgreeClaim}
+use Rattle.mogtriz.specs.Claims.{ThereAndBackClaim, BackAndThereClaim, StartedMarksClaim, HandedBackClaim, RefusedStartClaim, TurnedAway, TurnedAwayClaim, ThirteenC, ThirteenCClaim, PartClaim, AgreeClaim}
 use Rattle.mogtriz.proofs.MarkLaws.{marks-back, bytes-back, marks-low}
-use Rattle.mogtriz.proofs.AnswerLaws.{either, step-back, run-back, step-done, run-done, handed-on, plan-kept, write-kept, read-out-kept}
+use Rattle.mogtriz.proofs.AnswerLaws.{kept-session, either, step-back, run-back, step-done, run-done, handed-on, plan-kept, write-kept, read-out-kept}
 
 pub there-and-back : ThereAndBackClaim
 there-and-back s = rw (marks-back (s .live))
@@ -36,6 +39,50 @@ handed-back-claim s =
       write = λ nodes list out. either (λ (r : WriteAnswer). r .session ≡ s) (someAbove1 (s .live)) refl refl;
       read-out = λ nodes object. either (λ (r : ReadOutAnswer). r .session ≡ s) (someAbove1 (s .live)) refl refl;
     }
+
+pub refused-start-claim : RefusedStartClaim
+refused-start-claim number = refl
+
+-- with a byte above 1 or without, by what the session's own operation gives
+pub turned-away-claim : TurnedAwayClaim
+unfolding steppedC nodesSteppedC plannedC outPlannedC ranC nodesRanC writtenC outWrittenC readOutC objectOutC
+turned-away-claim s = go (someAbove1 (s .live)) refl
+  where
+    go : (above : Bool) → someAbove1 (s .live) ≡ above → TurnedAway s
+    go true e =
+        record {
+          step = λ nodes j a b h. (rw e, rw e);
+          plan = λ out h. (rw e, rw e);
+          run = λ nodes h. (rw e, rw e);
+          write = λ nodes list out h. (rw e, rw e);
+          read-out = λ nodes object h. rw e;
+        }
+    go false e =
+        let own = refusal-claim in
+        record {
+          step = λ nodes j a b h. let r = own .step (sessionOfC s) nodes j a b (rw e at h) in (rw (e, kept-session s _ _ (rw e at h)), rw (e, r .1));
+          plan = λ out h. let r = own .plan (sessionOfC s) out (rw e at h) in (rw (e, r .0), rw (e, r .1));
+          run = λ nodes h. let r = own .run (sessionOfC s) nodes (rw e at h) in (rw (e, kept-session s _ _ (rw e at h), r .0), rw (e, r .1));
+          write = λ nodes list out h. let r = own .write (sessionOfC s) nodes list out (rw e at h) in (rw (e, r .0), rw (e, r .1));
+          read-out = λ nodes object h. rw (e, own .read-out (sessionOfC s) nodes object (rw e at h) .1);
+        }
+
+pub thirteen-c-claim : ThirteenCClaim
+unfolding steppedC plannedC ranC writtenC readOutC
+thirteen-c-claim s due = go (someAbove1 (s .live)) refl due
+  where
+    go : (above : Bool) → someAbove1 (s .live) ≡ above → (someAbove1 (s .live) ≡ true) ⊎ (noStart (sessionOfC s) ≡ true) → ThirteenC s
+    go true e d = record { step = λ nodes j a b. rw e; plan = λ out. rw e; run = λ nodes. rw e; write = λ nodes list out. rw e; read-out = λ nodes object. rw e }
+    go false e (inl t) = absurd (false≢true (sym e ∙ t))
+    go false e (inr n) =
+        let own = thirteen-claim (sessionOfC s) n in
+        record {
+          step = λ nodes j a b. rw (e, own .step nodes j a b);
+          plan = λ out. rw (e, own .plan out);
+          run = λ nodes. rw (e, own .run nodes);
+          write = λ nodes list out. rw (e, own .write nodes list out);
+          read-out = λ nodes object. rw (e, own .read-out nodes object);
+        }
 
 pub part-claim : PartClaim
 unfolding partIn bodyOf

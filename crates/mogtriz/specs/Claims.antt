@@ -1,11 +1,11 @@
 -- What is proved of the C interface besides each function's own equations: a session handed to C and back is the same session,
 -- and the calls of C keep the promises of the library. proofs/Proved.antt and proofs/CallsProved.antt have the proofs.
 use mathlib.Core.Path.{_≡_}
-use mathlib.Core.Bool.{false, cond}
+use mathlib.Core.Bool.{true, false, cond}
 use mathlib.Core.List.{List, _∷_, _++_}
-use mathlib.Core.Logic.{_↔_}
+use mathlib.Core.Logic.{_↔_, _⊎_}
 use Prim.Native.Nat.{ℕ, _*_, _≤_, _<_}
-use lib.ListN.{length, getD, take, drop}
+use lib.ListN.{length, getD, take, drop, replicate}
 use Rattle.families.specs.Families.{familyOf, IsNode}
 use Rattle.encoding.specs.Encode.{encodeAnswer}
 use Rattle.boxes.specs.Box.{namesIn, bodyOf}
@@ -13,7 +13,8 @@ use Rattle.planning.specs.Pairs.{NoPairLeft}
 use Rattle.leftover.specs.Open.{Open, OpenCount}
 use Rattle.repair.specs.declared.Session.{Session}
 use Rattle.repair.specs.declared.Started.{Started}
-use Rattle.repair.specs.Session.{started}
+use Rattle.repair.specs.Session.{refusedStart, started, noStart}
+use Rattle.repair.specs.Refusals.{Refused}
 use Rattle.repair.specs.Boxed.{readBox, nodesRead, written, outWritten}
 use Rattle.repair.specs.ReadOut.{readOut, objectOut}
 use Rattle.repair.specs.Step.{stepped, nodesStepped}
@@ -57,6 +58,39 @@ pub record HandedBack (s : MarkedSession) : Type 0 where
 
 abbrev pub HandedBackClaim : Type 0
 HandedBackClaim = (s : MarkedSession) → HandedBack s
+
+-- ---- a call that is turned away (demand 1)
+
+-- a refused mogtriz_start, mogtriz_check or mogtriz_read gives a session of zeros
+abbrev pub RefusedStartClaim : Type 0
+RefusedStartClaim = (number : ℕ) → startedC (refusedStart number) ≡ record { refusal = number; session = record { family = 0; k = 0; len = 0; live = replicate 256 0 } }
+
+-- of any session handed in: a refusal gives its number and zeros, the session as it was, and no byte is written
+pub record TurnedAway (s : MarkedSession) : Type 0 where
+  pub step : (nodes : List ℕ) (j a b : ℕ) → Refused (steppedC s nodes j a b .refusal)
+      → (steppedC s nodes j a b ≡ record { refusal = steppedC s nodes j a b .refusal; session = s }) × (nodesSteppedC s nodes j a b ≡ nodes)
+  pub plan : (out : List ℕ) → Refused (plannedC s out .refusal)
+      → (plannedC s out ≡ record { refusal = plannedC s out .refusal; steps = 0; rounds = 0; left = 0; session = s }) × (outPlannedC s out ≡ out)
+  pub run : (nodes : List ℕ) → Refused (ranC s nodes .refusal)
+      → (ranC s nodes ≡ record { refusal = ranC s nodes .refusal; steps = 0; rounds = 0; left = 0; session = s }) × (nodesRanC s nodes ≡ nodes)
+  pub write : (nodes list out : List ℕ) → Refused (writtenC s nodes list out .refusal)
+      → (writtenC s nodes list out ≡ record { refusal = writtenC s nodes list out .refusal; length = 0; session = s }) × (outWrittenC s nodes list out ≡ out)
+  pub read-out : (nodes object : List ℕ) → Refused (readOutC s nodes object .refusal) → objectOutC s nodes object ≡ object
+
+abbrev pub TurnedAwayClaim : Type 0
+TurnedAwayClaim = (s : MarkedSession) → TurnedAway s
+
+-- every call on a session gives 13, whatever is asked for
+pub record ThirteenC (s : MarkedSession) : Type 0 where
+  pub step : (nodes : List ℕ) (j a b : ℕ) → steppedC s nodes j a b .refusal ≡ 13
+  pub plan : (out : List ℕ) → plannedC s out .refusal ≡ 13
+  pub run : (nodes : List ℕ) → ranC s nodes .refusal ≡ 13
+  pub write : (nodes list out : List ℕ) → writtenC s nodes list out .refusal ≡ 13
+  pub read-out : (nodes object : List ℕ) → readOutC s nodes object .refusal ≡ 13
+
+-- where a byte is above 1, or no start gives the session
+abbrev pub ThirteenCClaim : Type 0
+ThirteenCClaim = (s : MarkedSession) → (someAbove1 (s .live) ≡ true) ⊎ (noStart (sessionOfC s) ≡ true) → ThirteenC s
 
 -- ---- the calls agree
 

@@ -11,9 +11,11 @@ use Rattle.boxes.specs.Box.{boxChecks}
 use Rattle.repair.specs.declared.Session.{Session}
 use Rattle.repair.specs.declared.Started.{Started}
 use Rattle.repair.specs.declared.Written.{Written}
+use Rattle.repair.specs.declared.Stepped.{Stepped}
 use Rattle.repair.specs.declared.Repairs.{Repairs}
 use Rattle.repair.specs.Session.{refusedStart, startChecks, started}
 use Rattle.repair.specs.Boxed.{checkedBox, readChecks, readBox, writeChecks, written}
+use Rattle.repair.specs.Step.{stepChecks, stepped}
 use Rattle.repair.specs.Repairs.{refusedRepairs, planChecks, planned, runChecks, ran}
 
 accepted-answer : {R : Type 0} (get : R → ℕ) (done refused : R) (r : ℕ) → get refused ≡ r → get (cond (eqb r 0) done refused) ≡ 0 → r ≡ 0
@@ -39,6 +41,11 @@ pub write-accepted : (s : Session) (nodes list out : List ℕ) → written s nod
 unfolding written
 write-accepted s nodes list out h =
     accepted-answer (λ (r : Written). r .refusal) _ (record { refusal = firstMet (writeChecks s nodes list out); length = 0; session = s }) _ refl h
+
+pub step-passed : (s : Session) (nodes : List ℕ) (j a b : ℕ) → stepped s nodes j a b .refusal ≡ 0 → firstMet (stepChecks s nodes j a b) ≡ 0
+unfolding stepped
+step-passed s nodes j a b h =
+    accepted-answer (λ (r : Stepped). r .refusal) _ (record { refusal = firstMet (stepChecks s nodes j a b); session = s }) _ refl h
 
 pub plan-accepted : (s : Session) (out : List ℕ) → planned s out .refusal ≡ 0 → firstMet (planChecks s out) ≡ 0
 unfolding planned

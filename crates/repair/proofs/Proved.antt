@@ -22,7 +22,7 @@ use Rattle.boxes.proofs.Proved.{body-claim, box-of-body-claim}
 use Rattle.repair.specs.declared.Started.{Started}
 use Rattle.repair.specs.Session.{started, nodesOf, noStart}
 use Rattle.repair.specs.Boxed.{checkedBox, listed}
-use Rattle.repair.specs.Claims.{FromStart, NoStartClaim, StartMarksClaim, WriteReadClaim, ReadKeepsClaim, ReadWriteClaim, ReadBodyClaim, WrittenBodyClaim, BoxStartClaim, WrongCountClaim}
+use Rattle.repair.specs.Claims.{StartClaim, FromStart, NoStartClaim, StartMarksClaim, WriteReadClaim, ReadKeepsClaim, ReadWriteClaim, ReadBodyClaim, WrittenBodyClaim, BoxStartClaim, WrongCountClaim}
 use Rattle.repair.proofs.Accepted.{start-accepted, check-accepted, read-accepted, write-accepted}
 use Rattle.repair.proofs.StartLaws.{known, start-0, no-start-marks, accepted-start}
 use Rattle.repair.proofs.ListedLaws.{place-there, place-before}
@@ -30,6 +30,13 @@ use Rattle.repair.proofs.BoxedLaws.{read-by-box}
 use Rattle.repair.proofs.RoundTripLaws.{live-good, accepted-write, box-written, write-answer, write-room, write-rest, box-passes, box-names, box-checked, box-reads, bodies-read, accepted-read, read-is, read-keeps, again-all, again-named}
 
 -- ---- start
+
+pub start-claim : StartClaim
+unfolding started
+start-claim family k L list = (
+  (λ h. let a = accepted-start family k L list (start-accepted family k L list h) in (a .range, a .outside, a .rising)),
+  (λ p. rw (start-0 family k L list (parameters-in family k L (p .0)) (p .1) (p .2))),
+)
 
 -- the start is that of the live nodes
 pub no-start-claim : NoStartClaim

@@ -1,4 +1,4 @@
--- The claim of specs/Refusals.antt.
+-- The claims of specs/Refusals.antt.
 -- Assumes nothing.
 use mathlib.Core.Path.{_≡_, refl, sym, ap}
 use mathlib.Core.Bool.{cond}
@@ -13,12 +13,12 @@ use Rattle.repair.specs.declared.Started.{Started}
 use Rattle.repair.specs.declared.Stepped.{Stepped}
 use Rattle.repair.specs.declared.Repairs.{Repairs}
 use Rattle.repair.specs.declared.Written.{Written}
-use Rattle.repair.specs.Session.{refusedStart, startChecks, started}
+use Rattle.repair.specs.Session.{refusedStart, startChecks, started, nodesChecks}
 use Rattle.repair.specs.Boxed.{checkedBox, readChecks, readBox, nodesRead, writeChecks, written, outWritten}
 use Rattle.repair.specs.ReadOut.{readOutChecks, readOut, objectOut}
 use Rattle.repair.specs.Step.{stepChecks, stepped, nodesStepped}
 use Rattle.repair.specs.Repairs.{refusedRepairs, planChecks, planned, outPlanned, runChecks, ran, nodesRan}
-use Rattle.repair.specs.Refusals.{Refused, RefusalClaim}
+use Rattle.repair.specs.Refusals.{Refused, RefusalClaim, ThirteenClaim}
 
 -- a buffer that is one of two, by the number of the first check that is met
 kept : (done before : List ℕ) (r : ℕ) → Refused r → cond (eqb r 0) done before ≡ before
@@ -63,3 +63,8 @@ refusal-claim =
 
     repairs-number : Repairs → ℕ
     repairs-number answer = answer .refusal
+
+pub thirteen-claim : ThirteenClaim
+unfolding nodesChecks firstMet written readOut stepped planned ran writeChecks readOutChecks stepChecks planChecks runChecks
+thirteen-claim s e =
+    record { write = λ nodes list out. rw e; read-out = λ nodes object. rw e; step = λ nodes j a b. rw e; plan = λ out. rw e; run = λ nodes. rw e }

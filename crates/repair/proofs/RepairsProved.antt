@@ -8,19 +8,31 @@ use Rattle.checks.specs.Checks.{firstMet}
 use Rattle.lists.specs.Lists.{isLive}
 use Rattle.lists.proofs.Laws.{length-setLive}
 use Rattle.planning.specs.Pairs.{NoPairLeft}
-use Rattle.planning.specs.Plan.{repairedNodes, nodesLeft}
+use Rattle.planning.specs.Plan.{Step, repairedNodes, nodesLeft}
 use Rattle.planning.proofs.CarryLaws.{steps-back}
 use Rattle.planning.proofs.Proved.{plan-claim}
 use Rattle.repair.specs.declared.Session.{Session}
 use Rattle.repair.specs.Session.{nodesOf}
 use Rattle.repair.specs.ReadOut.{readOut}
+use Rattle.repair.specs.Step.{stepped}
 use Rattle.repair.specs.Repairs.{planIn, planned, outPlanned, runChecks, ran}
 use Rattle.repair.specs.Calls.{step, run, heldAfter}
-use Rattle.repair.specs.RepairClaims.{StaysClaim, LiveStaysClaim, PlanWritesClaim, RunIsStepsClaim, RunEndsClaim, PlacesKeptClaim, LiveKeptClaim, RunAgainClaim, OwnClaim}
-use Rattle.repair.proofs.Accepted.{plan-accepted, run-accepted}
+use Rattle.repair.specs.RepairClaims.{StepClaim, StaysClaim, LiveStaysClaim, PlanWritesClaim, RunIsStepsClaim, RunEndsClaim, PlacesKeptClaim, LiveKeptClaim, RunAgainClaim, OwnClaim}
+use Rattle.repair.proofs.Accepted.{step-passed, plan-accepted, run-accepted}
 use Rattle.repair.proofs.StartLaws.{nodes-0}
+use Rattle.repair.proofs.StepLaws.{accepted-step, step-accepted}
 use Rattle.repair.proofs.CallLaws.{ran-left}
 use Rattle.repair.proofs.OwnLaws.{stays-stepped, stays-ran, stepped-keeps, ran-keeps, run-known, session-ran, ran-sized, run-steps, run-keeps-left, run-keeps-live, quiet-answer, quiet-nodes, OwnHeld, own-moves, own-out}
+
+pub step-claim : StepClaim
+unfolding stepped
+step-claim s nodes j a b = (
+  (λ h. let w = accepted-step s nodes made (step-passed s nodes j a b h) in (w .buffer .starts, w .buffer .size, w .makes)),
+  (λ p. rw (step-accepted s nodes made (record { buffer = record { starts = p .0; size = p .1 }; makes = p .2 }))),
+)
+  where
+    made : Step
+    made = record { round = 0; node = j; smaller = a; larger = b }
 
 pub stays-claim : StaysClaim
 stays-claim s size starts nodes (step j a b) = stays-stepped s starts nodes j a b

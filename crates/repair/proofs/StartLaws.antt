@@ -37,12 +37,13 @@ module _ (family k L : ℕ) (list : List ℕ) where
 pub record AcceptedStart (family k L : ℕ) (list : List ℕ) : Type 0 where
   pub range : InRange family k L
   pub outside : someOutside (nodeCount (familyOf family) k) list ≡ false
+  pub rising : rises list ≡ true
 
 pub accepted-start : (family k L : ℕ) (list : List ℕ) → firstMet (startChecks family k L list) ≡ 0 → AcceptedStart family k L list
 unfolding startChecks parameterChecks
 accepted-start family k L list e =
     let n = accepted (startChecks family k L list) refl e in
-    record { range = range-of family k L (n .0, (n .1 .0, (n .1 .1 .0, tt))); outside = n .1 .1 .1 .0 }
+    record { range = range-of family k L (n .0, (n .1 .0, (n .1 .1 .0, tt))); outside = n .1 .1 .1 .0; rising = not-false (rises list) (n .1 .1 .1 .1 .0) }
 
 -- ---- 13 and 6
 

@@ -6,10 +6,12 @@ use mathlib.Core.Logic.{_↔_}
 use Prim.Native.Nat.{ℕ, _*_, _≤_, _<_}
 use lib.Dec.{ltb}
 use lib.ListN.{length, getD, take, drop}
+use Rattle.families.specs.Families.{familyOf, nodeCount}
 use Rattle.blocks.specs.Blocks.{blockOf}
 use Rattle.checks.specs.Checks.{firstMet}
+use Rattle.checks.specs.Claims.{InRange}
 use Rattle.checks.specs.Parameters.{parameterChecks}
-use Rattle.lists.specs.Lists.{isLive, placeIn}
+use Rattle.lists.specs.Lists.{someOutside, rises, isLive, placeIn}
 use Rattle.boxes.specs.Box.{familyIn, kIn, lengthIn, heldIn, zerosIn, namesIn, boxLength, bodyChecks, bodyOf}
 use Rattle.boxes.specs.Bodies.{boxOf}
 use Rattle.boxes.specs.Claims.{AcceptedBox, Named}
@@ -18,6 +20,11 @@ use Rattle.repair.specs.Session.{sessionOf, refusedStart, started, nodes
 use Rattle.repair.specs.Boxed.{sessionIn, checkedBox, readBox, nodesRead, listed, writtenLength, written, outWritten}
 
 -- ---- start
+
+-- a start is accepted exactly where family, k and L are in range, and its list is of nodes and strictly rises
+abbrev pub StartClaim : Type 0
+StartClaim = (family k L : ℕ) (list : List ℕ)
+    → (started family k L list .refusal ≡ 0) ↔ (InRange family k L × (someOutside (nodeCount (familyOf family) k) list ≡ false) × (rises list ≡ true))
 
 -- some accepted start gives exactly this session
 pub record FromStart (s : Session) : Type 0 where

@@ -1,7 +1,7 @@
 -- A call that is turned away (demand 1): it gives its number and zeros, the session as handed in, and no byte is written;
--- proofs/RefusalsProved.antt has the proof.
+-- proofs/RefusalsProved.antt has the proofs.
 use mathlib.Core.Path.{_≡_}
-use mathlib.Core.Bool.{cond}
+use mathlib.Core.Bool.{true, cond}
 use mathlib.Core.List.{List, []}
 use Prim.Native.Nat.{ℕ}
 use lib.Dec.{eqb}
@@ -9,7 +9,7 @@ use Rattle.checks.specs.Checks.{firstMet}
 use Rattle.encoding.specs.Encode.{encodeAnswer, encoded}
 use Rattle.boxes.specs.Box.{bodyChecks, bodyOf}
 use Rattle.repair.specs.declared.Session.{Session}
-use Rattle.repair.specs.Session.{refusedStart, started}
+use Rattle.repair.specs.Session.{refusedStart, started, noStart}
 use Rattle.repair.specs.Boxed.{checkedBox, readBox, nodesRead, written, outWritten}
 use Rattle.repair.specs.ReadOut.{missingIn, readOut, objectOut}
 use Rattle.repair.specs.Step.{stepped, nodesStepped}
@@ -43,3 +43,15 @@ pub record RefusalClaim : Type 0 where
       → (planned s out ≡ refusedRepairs s (planned s out .refusal)) × (outPlanned s out ≡ out)
   pub run : (s : Session) (nodes : List ℕ) → Refused (ran s nodes .refusal)
       → (ran s nodes ≡ refusedRepairs s (ran s nodes .refusal)) × (nodesRan s nodes ≡ nodes)
+
+-- every operation of a session gives 13, whatever is asked for
+pub record Thirteen (s : Session) : Type 0 where
+  pub write : (nodes list out : List ℕ) → written s nodes list out .refusal ≡ 13
+  pub read-out : (nodes object : List ℕ) → readOut s nodes object .refusal ≡ 13
+  pub step : (nodes : List ℕ) (j a b : ℕ) → stepped s nodes j a b .refusal ≡ 13
+  pub plan : (out : List ℕ) → planned s out .refusal ≡ 13
+  pub run : (nodes : List ℕ) → ran s nodes .refusal ≡ 13
+
+-- where no start gives the session
+abbrev pub ThirteenClaim : Type 0
+ThirteenClaim = (s : Session) → noStart s ≡ true → Thirteen s

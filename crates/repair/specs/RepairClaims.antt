@@ -2,20 +2,33 @@
 use mathlib.Core.Path.{_≡_}
 use mathlib.Core.Bool.{true, false}
 use mathlib.Core.List.{List, map}
+use mathlib.Core.Logic.{_↔_}
 use Prim.Native.Nat.{ℕ, _*_}
 use lib.ListN.{length}
 use Rattle.families.specs.Families.{familyOf, IsNode, columnOf}
 use Rattle.blocks.specs.Blocks.{blockOf}
 use Rattle.encoding.specs.Matrix.{nodeBlock}
 use Rattle.lists.specs.Lists.{isLive}
+use Rattle.planning.specs.Claims.{CanMake}
 use Rattle.planning.specs.Pairs.{NoPairLeft}
 use Rattle.planning.specs.Plan.{Step}
 use Rattle.planning.specs.Made.{stepsIn}
 use Rattle.repair.specs.declared.Session.{Session}
 use Rattle.repair.specs.Session.{nodesOf, noStart}
+use Rattle.repair.specs.Step.{stepped}
 use Rattle.repair.specs.Repairs.{planIn, planned, outPlanned, ran, nodesRan}
 use Rattle.repair.specs.ReadOut.{readOut, objectOut}
 use Rattle.repair.specs.Calls.{Move, step, sessionAfter, heldAfter}
+
+-- ---- step
+
+-- a step is accepted exactly where some start gives the session, the nodes buffer is n × L bytes, and the step can be made: the node
+-- is missing, and the two others are live and related to it
+abbrev pub StepClaim : Type 0
+StepClaim = (s : Session) (nodes : List ℕ) (j a b : ℕ)
+    → (stepped s nodes j a b .refusal ≡ 0)
+    ↔ ((noStart s ≡ false) × (length nodes ≡ nodesOf s * s .len)
+    × CanMake (familyOf (s .family)) (s .k) (s .live) (record { round = 0; node = j; smaller = a; larger = b }))
 
 -- ---- marks for 0 and above n are never live
 
