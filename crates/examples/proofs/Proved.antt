@@ -2,12 +2,12 @@
 -- Assumes nothing.
 use mathlib.Core.Path.{_≡_, refl, sym, ap, _∙_, subst}
 use mathlib.Core.Bool.{false}
-use mathlib.Core.List.{List, [], _∷_, append-nil}
+use mathlib.Core.List.{List, [], _∷_, _++_, append-nil}
 use Prim.Native.Nat.{ℕ, _*_, _/_, _≤_}
 use native.Mathlib.Omega.{arith}
 use borrow.Author.Tests.{le-ltb}
 use lib.Dec.{ltb}
-use lib.ListN.{length, getD}
+use lib.ListN.{length, getD, drop}
 use lib.Seq.{ext-getD}
 use Rattle.families.specs.Families.{familyOf, nodeCount, columnOf, smallerAt, largerAt, areRelated, firstFrom, listFrom}
 use Rattle.families.proofs.TableLaws.{length-listFrom, getD-listFrom}
@@ -32,9 +32,9 @@ use Rattle.repair.specs.Step.{stepChecks, stepped, nodesStepped}
 use Rattle.repair.specs.Repairs.{planIn, runChecks}
 use Rattle.repair.proofs.StartLaws.{nodes-0}
 use Rattle.repair.proofs.RepairsLaws.{plan-made, run-made}
-use Rattle.listing.specs.Text.{digitCount, decimal, field, firstLine, stepLine, stepLines, lastLine}
+use Rattle.listing.specs.Text.{digitCount, decimal, field, firstLine, stepLine, stepLines, lastLine, refusalLine}
 use Rattle.listing.specs.Listing.{answerOf, listingIn, listingOf}
-use Rattle.examples.specs.Examples.{Row, Encodes, Plans, BoxPlans, BoxSteps, BoxReads, BoxHolds, BoxLacks, BoxRewrites, Lists, Holds, HasPlan, StepGives, Reads, Rewrites, Every, accepted, othersFrom, allBut, table, Examples}
+use Rattle.examples.specs.Examples.{Row, Encodes, Plans, BoxPlans, BoxSteps, BoxReads, BoxHolds, BoxLacks, BoxRewrites, Lists, Starts, BoxGives, BoxWrites, Holds, HasPlan, StepGives, Reads, Rewrites, Every, accepted, othersFrom, allBut, table, Examples}
 
 -- ---- a plan
 
@@ -106,6 +106,11 @@ Computed (BoxLacks box j number) = Holds (BoxLacks box j number)
 Computed (BoxRewrites box s list) =
     (byte : ℕ → ℕ) (out : List ℕ) → ltb (length out) (length box) ≡ false → Rewrites box s list (listFrom byte 0 (nodesOf s * s .len)) out
 Computed (Lists box text) = Holds (Lists box text)
+Computed (Starts family k L list number) = Holds (Starts family k L list number)
+Computed (BoxGives bytes number) = Holds (BoxGives bytes number)
+Computed (BoxWrites box list other) =
+    (byte : ℕ → ℕ) (out : List ℕ) → ltb (length out) (length other) ≡ false
+    → outWritten (checkedBox box .session) (nodesRead box (listFrom byte 0 (nodesOf (checkedBox box .session) * checkedBox box .session .len))) list out ≡ other ++ drop (length other) out
 
 -- and what follows
 holds : (row : Row) → Computed row → Holds row
@@ -123,6 +128,11 @@ holds (BoxLacks box j number) c = c
 holds (BoxRewrites box s list) c = λ nodes e out h.
     each (nodesOf s * s .len) (λ nodes. Rewrites box s list nodes out) (λ byte. c byte out (le-ltb (length out) (length box) h)) nodes e
 holds (Lists box text) c = c
+holds (Starts family k L list number) c = c
+holds (BoxGives bytes number) c = c
+holds (BoxWrites box list other) c = λ nodes e out h.
+    each (nodesOf (checkedBox box .session) * checkedBox box .session .len) (λ nodes. outWritten (checkedBox box .session) (nodesRead box nodes) list out ≡ other ++ drop (length other) out)
+    (λ byte. c byte out (le-ltb (length out) (length other) h)) nodes e
 
 all-hold : (rows : List Row) → Every Computed rows → Every Holds rows
 all-hold [] c = tt
@@ -136,7 +146,7 @@ _&_ : {A B : Type 0} → A → B → A × B
 a & b = (a, b)
 
 computed : Every Computed table
-unfolding encodeChecks parameterChecks firstMet nodesBuffer nodeBlocks nodeBlock dataBlock columnOf nodeCount xorBytes startChecks checkedBox boxChecks someOutside rises setLive noStart liveOutside someLive planOf roundsFrom stepsFrom isRepaired smallerNode largerNode firstFrom areRelated smallerAt largerAt stepBytes lastRound nodesLeft countFrom liveFrom someMissing stepsIn othersFrom placeIn listFrom readBox nodesRead readChecks withBodies withBlock blockOf bodyChecks bodyOf writeChecks nodesChecks written outWritten boxOf bodiesOf stepChecks stepped nodesStepped listingOf answerOf listingIn firstLine stepLines stepLine lastLine field decimal digitCount
+unfolding started refusalLine encodeChecks parameterChecks firstMet nodesBuffer nodeBlocks nodeBlock dataBlock columnOf nodeCount xorBytes startChecks checkedBox boxChecks someOutside rises setLive noStart liveOutside someLive planOf roundsFrom stepsFrom isRepaired smallerNode largerNode firstFrom areRelated smallerAt largerAt stepBytes lastRound nodesLeft countFrom liveFrom someMissing stepsIn othersFrom placeIn listFrom readBox nodesRead readChecks withBodies withBlock blockOf bodyChecks bodyOf writeChecks nodesChecks written outWritten boxOf bodiesOf stepChecks stepped nodesStepped listingOf answerOf listingIn firstLine stepLines stepLine lastLine field decimal digitCount
 computed =
     (refl, refl)
     & (refl, refl, (refl, refl, refl, refl))
@@ -156,6 +166,12 @@ computed =
     & (refl, refl)
     & (λ byte out l. (rw l, rw l))
     & refl
+    & (refl, refl)
+    & (refl, refl)
+    & refl & refl & refl & refl & refl & refl & refl & refl
+    & refl & refl & refl & refl & refl
+    & refl & refl & refl
+    & (λ byte out l. rw l)
     & tt
 
 pub examples : Examples

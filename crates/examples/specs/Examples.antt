@@ -42,6 +42,12 @@ pub data Row : Type 0 where
   BoxRewrites : List ℕ → Session → List ℕ → Row
   -- a box, and what the lister prints of it
   Lists : List ℕ → String → Row
+  -- family, k, L and a node list; the number that the start gives
+  Starts : ℕ → ℕ → ℕ → List ℕ → ℕ → Row
+  -- bytes, and the number that checking them as a box gives
+  BoxGives : List ℕ → ℕ → Row
+  -- a box; a list of its nodes, and the box that is written by it of what was read
+  BoxWrites : List ℕ → List ℕ → List ℕ → Row
 
 -- what an accepted start or box gives: 0 and its session
 abbrev pub accepted : Session → Started
@@ -102,6 +108,11 @@ Holds (BoxLacks box j number) = (firstMet (bodyChecks box j) ≡ number) × (bod
 Holds (BoxRewrites box s list) =
     (nodes : List ℕ) → length nodes ≡ nodesOf s * s .len → (out : List ℕ) → length box ≤ length out → Rewrites box s list nodes out
 Holds (Lists box text) = listingOf box ≡ ascii text
+Holds (Starts family k L list number) = started family k L list .refusal ≡ number
+Holds (BoxGives bytes number) = checkedBox bytes .refusal ≡ number
+Holds (BoxWrites box list other) =
+    (nodes : List ℕ) → length nodes ≡ nodesOf (checkedBox box .session) * checkedBox box .session .len
+    → (out : List ℕ) → length other ≤ length out → outWritten (checkedBox box .session) (nodesRead box nodes) list out ≡ other ++ drop (length other) out
 
 -- this is so of every row of a table
 abbrev pub Every : (Row → Type 0) → List Row → Type 0
@@ -155,6 +166,31 @@ table =
     ∷ BoxRewrites sampleBox sampleSession (4 ∷ 5 ∷ 7 ∷ [])
     -- It makes the lister print, whole, these six lines
     ∷ Lists sampleBox "family 1 k 3 length 1 live 3\n1 1 4 5\n1 2 5 7\n1 3 4 7\n2 6 1 7\nsteps 4 rounds 2 left 0\n"
+    -- Weight-two 4 and the tetrahedron with an object whose data block i is 2^(i − 1): each node holds its column
+    ∷ Encodes 2 4 1 (1 ∷ 2 ∷ 4 ∷ 8 ∷ []) (1 ∷ 2 ∷ 4 ∷ 8 ∷ 3 ∷ 5 ∷ 9 ∷ 6 ∷ 10 ∷ 12 ∷ [])
+    ∷ Encodes 3 4 1 (1 ∷ 2 ∷ 4 ∷ 8 ∷ []) (1 ∷ 2 ∷ 4 ∷ 8 ∷ 5 ∷ 3 ∷ 6 ∷ 7 ∷ 10 ∷ 12 ∷ 14 ∷ 9 ∷ 11 ∷ 13 ∷ [])
+    -- Simplex k 8 accepted, 9 gives 2; weight-two k 22 accepted, 23 gives 2; the list 3, 3 gives 5
+    ∷ Starts 1 8 1 [] 0
+    ∷ Starts 1 9 1 [] 2
+    ∷ Starts 2 22 1 [] 0
+    ∷ Starts 2 23 1 [] 2
+    ∷ Starts 1 3 1 (3 ∷ 3 ∷ []) 5
+    -- Other numbers of a start: 1, 3, and 4 before 5
+    ∷ Starts 4 9 0 [] 1
+    ∷ Starts 1 3 0 [] 3
+    ∷ Starts 1 3 1 (8 ∷ 3 ∷ []) 4
+    -- The box above one byte shorter or longer, and no byte at all; 8 before the full-length 7, and 9 before 5
+    ∷ BoxGives (1 ∷ 3 ∷ 1 ∷ 0 ∷ 3 ∷ 0 ∷ 0 ∷ 0 ∷ 4 ∷ 5 ∷ 7 ∷ 4 ∷ 5 ∷ []) 7
+    ∷ BoxGives (1 ∷ 3 ∷ 1 ∷ 0 ∷ 3 ∷ 0 ∷ 0 ∷ 0 ∷ 4 ∷ 5 ∷ 7 ∷ 4 ∷ 5 ∷ 7 ∷ 0 ∷ []) 7
+    ∷ BoxGives [] 7
+    ∷ BoxGives (1 ∷ 3 ∷ 1 ∷ 0 ∷ 3 ∷ 0 ∷ 0 ∷ 1 ∷ 4 ∷ 5 ∷ 7 ∷ 4 ∷ 5 ∷ 7 ∷ []) 8
+    ∷ BoxGives (1 ∷ 2 ∷ 1 ∷ 0 ∷ 4 ∷ 0 ∷ 0 ∷ 0 ∷ 1 ∷ 2 ∷ 3 ∷ 3 ∷ 9 ∷ 9 ∷ 9 ∷ 9 ∷ []) 9
+    -- Example h as a box, an empty input, and a box of no node with L 259
+    ∷ Lists (3 ∷ 4 ∷ 1 ∷ 0 ∷ 2 ∷ 0 ∷ 0 ∷ 0 ∷ 4 ∷ 8 ∷ 9 ∷ 6 ∷ []) "family 3 k 4 length 1 live 2\nsteps 0 rounds 0 left 12\n"
+    ∷ Lists [] "refused 7\n"
+    ∷ Lists (2 ∷ 4 ∷ 3 ∷ 1 ∷ 0 ∷ 0 ∷ 0 ∷ 0 ∷ []) "family 2 k 4 length 259 live 0\nsteps 0 rounds 0 left 10\n"
+    -- The box of node 5 alone, written of what was read from document 01's box
+    ∷ BoxWrites sampleBox (5 ∷ []) (1 ∷ 3 ∷ 1 ∷ 0 ∷ 1 ∷ 0 ∷ 0 ∷ 0 ∷ 5 ∷ 5 ∷ [])
     ∷ []
 
 -- the common statement

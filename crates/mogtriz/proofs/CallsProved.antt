@@ -27,7 +27,7 @@ use Rattle.mogtriz.specs.declared.sessions.MarkedSession.{MarkedSession}
 use Rattle.mogtriz.specs.declared.sessions.WriteAnswer.{WriteAnswer}
 use Rattle.mogtriz.specs.declared.sessions.ReadOutAnswer.{ReadOutAnswer}
 use Rattle.mogtriz.specs.declared.repairs.RepairsAnswer.{RepairsAnswer}
-use Rattle.mogtriz.specs.Sessions.{markOf, someAbove1, sessionForC, sessionOfC, readOutC}
+use Rattle.mogtriz.specs.Sessions.{markOf, someAbove1, sessionForC, sessionOfC, readOutC, objectOutC}
 use Rattle.mogtriz.specs.Repairs.{ranC, nodesRanC}
 use Rattle.mogtriz.specs.Claims.{Demand3C, OwnC, OwnCClaim, boxAwayC, heldAtC, OnTheWayC, OutWhereOpenC, WholeWayCClaim}
 use Rattle.mogtriz.proofs.MarkLaws.{byte-at}
@@ -132,6 +132,20 @@ module _ (way : Way) (on : OnTheWayC way) (moves : List Move) where
       rw (run-is, agree-claim (at-end .session) .run-nodes (at-end .nodes))
       (out-agrees (ran (at-end .session) (at-end .nodes) .session) (nodesRan (at-end .session) (at-end .nodes)) result (namesIn (boxAway way)) M (whole .back result size M some))
 
+module _ (way : Way) (on : OnTheWayC way) (moves : List Move) where
+  abbrev next : Session
+  next = ran (heldAt way moves .session) (heldAt way moves .nodes) .session
+
+  abbrev after : List ℕ
+  after = nodesRan (heldAt way moves .session) (heldAt way moves .nodes)
+
+  again : (result : List ℕ)
+      → readOutC (ranC (sessionForC (heldAt way moves .session)) (heldAt way moves .nodes) .session) (nodesRanC (sessionForC (heldAt way moves .session)) (heldAt way moves .nodes)) result .refusal ≡ 0
+      → objectOutC (ranC (sessionForC (heldAt way moves .session)) (heldAt way moves .nodes) .session) (nodesRanC (sessionForC (heldAt way moves .session)) (heldAt way moves .nodes)) result ≡ way .object
+  again result =
+      rw (run-is way on moves, agree-claim (heldAt way moves .session) .run-nodes (heldAt way moves .nodes), agree-claim next .read-out after result, agree-claim next .read-out-object after result)
+      (whole way on moves .again result)
+
 pub whole-way-c-claim : WholeWayCClaim
 whole-way-c-claim way on moves =
     let held = held-is way on moves in
@@ -139,4 +153,5 @@ whole-way-c-claim way on moves =
       own = rw (same way on moves) (own-read way on moves);
       runs = rw (held, agree-claim (heldAt way moves .session) .run (heldAt way moves .nodes)) (whole way on moves .runs);
       back = λ result size M some. rw (held, same way on moves) (back way on moves result size M some);
+      again = λ result. rw held (again way on moves result);
     }

@@ -3,9 +3,16 @@
 use mathlib.Core.Path.{_≡_, refl, sym, _∙_}
 use mathlib.Core.Bool.{Bool, true, false, false≢true}
 use mathlib.Core.Logic.{_⊎_, inl, inr}
+use Prim.Native.Nat.{ℕ}
+use native.Mathlib.Decide.{ℕ-discrete}
+use native.Mathlib.Omega.{arith}
+use borrow.Author.Tests.{eqb-true, eqb-false, ne-eqb, le-leb}
 use lib.Dec.{eqb}
-use lib.ListN.{take, drop}
 use Rattle.checks.specs.Checks.{firstMet}
+use Rattle.families.specs.Families.{familyOf, IsNode, nodeCount, nodeOf}
+use Rattle.families.proofs.Proved.{family-claims}
+use Rattle.checks.specs.Claims.{InRange}
+use Rattle.checks.proofs.Laws.{range-claim}
 use Rattle.boxes.specs.Box.{bodyChecks, bodyOf}
 use Rattle.repair.specs.Session.{noStart}
 use Rattle.repair.proofs.RefusalsProved.{refusal-claim, thirteen-claim}
@@ -13,8 +20,10 @@ use Rattle.mogtriz.specs.declared.sessions.WriteAnswer.{WriteAnswer}
 use Rattle.mogtriz.specs.declared.sessions.ReadOutAnswer.{ReadOutAnswer}
 use Rattle.mogtriz.specs.declared.repairs.RepairsAnswer.{RepairsAnswer}
 use Rattle.mogtriz.specs.Sessions.{someAbove1, sessionOfC, writtenC, outWrittenC, readOutC, objectOutC, partIn}
+use Rattle.mogtriz.specs.Exports.{nodeCountOr0, isNode, columnOr0, nodeOr0, relatedOr0}
 use Rattle.mogtriz.specs.Repairs.{steppedC, nodesSteppedC, plannedC, outPlannedC, ranC, nodesRanC}
-use Rattle.mogtriz.specs.Claims.{ThereAndBackClaim, BackAndThereClaim, StartedMarksClaim, HandedBackClaim, RefusedStartClaim, TurnedAway, TurnedAwayClaim, ThirteenC, ThirteenCClaim, PartClaim, AgreeClaim}
+use Rattle.mogtriz.specs.Claims.{ThereAndBackClaim, BackAndThereClaim, StartedMarksClaim, HandedBackClaim, RefusedStartClaim, TurnedAway, TurnedAwayClaim, ThirteenC, ThirteenCClaim, SameFieldsClaim, PartOf, PartClaim, AnswersClaim, AgreeClaim}
+use Rattle.mogtriz.proofs.Laws.{count-accepted}
 use Rattle.mogtriz.proofs.MarkLaws.{marks-back, bytes-back, marks-low}
 use Rattle.mogtriz.proofs.AnswerLaws.{kept-session, either, step-back, run-back, step-done, run-done, handed-on, plan-kept, write-kept, read-out-kept}
 
@@ -88,9 +97,42 @@ pub part-claim : PartClaim
 unfolding partIn bodyOf
 part-claim bytes j = go (eqb (firstMet (bodyChecks bytes j)) 0) refl
   where
-    go : (met : Bool) → eqb (firstMet (bodyChecks bytes j)) 0 ≡ met → take (partIn bytes j .length) (drop (partIn bytes j .from) bytes) ≡ bodyOf bytes j
-    go true e = rw e
-    go false e = rw e
+    go : (met : Bool) → eqb (firstMet (bodyChecks bytes j)) 0 ≡ met → PartOf bytes j
+    go true e = record { number = rw e (sym (eqb-true _ 0 e)); refused = λ h. absurd (h (rw e)); part = rw e; size = λ h. rw e }
+    go false e = record { number = rw e; refused = λ h. rw e; part = rw e; size = λ h. absurd (eqb-false _ 0 e (rw e at h)) }
+
+pub same-fields : SameFieldsClaim
+same-fields s = record { family = refl; k = refl; len = refl }
+
+module _ (family k : ℕ) (range : InRange family k 1) where
+  count-is : nodeCountOr0 family k ≡ nodeCount (familyOf family) k
+  count-is = count-accepted family k (range-claim family k 1 .1 range)
+
+  is-a-node : (j : ℕ) → IsNode (familyOf family) k j → isNode family k j ≡ true
+  unfolding isNode
+  is-a-node j n = rw count-is (simp (le-leb 1 j (n .first), le-leb j (nodeCount (familyOf family) k) (n .last)))
+
+  -- where there is no such node 0 is given either way
+  node-is : (c : ℕ) → nodeOr0 family k c ≡ nodeOf (familyOf family) k c
+  unfolding nodeOr0
+  node-is c = go (ℕ-discrete (nodeOf (familyOf family) k c) 0)
+    where
+      go : Dec (nodeOf (familyOf family) k c ≡ 0) → nodeOr0 family k c ≡ nodeOf (familyOf family) k c
+      go (yes z) = rw z (either (λ (n : ℕ). n ≡ 0) (eqb (nodeCountOr0 family k) 0) refl refl)
+      go (no n) =
+          let there = family-claims (familyOf family) k (range .blocks) .node c n in
+          rw (ne-eqb (nodeCountOr0 family k) 0 (λ z. omega (arith, z, count-is, there .first, there .last)))
+
+pub answers-claim : AnswersClaim
+unfolding columnOr0 relatedOr0
+answers-claim family k range =
+    record {
+      count = count-is family k range;
+      column = λ j n. rw (is-a-node family k range j n);
+      node = node-is family k range;
+      related = λ a b c na nb nc r. simp (is-a-node family k range a na, is-a-node family k range b nb, is-a-node family k range c nc, r);
+      unrelated = λ a b c na nb nc r. simp (is-a-node family k range a na, is-a-node family k range b nb, is-a-node family k range c nc, r);
+    }
 
 -- a session in C's form has no byte above 1, and is the session again once it is taken in
 pub agree-claim : AgreeClaim

@@ -6,9 +6,11 @@ use mathlib.Core.List.{List, _∷_, _++_}
 use mathlib.Core.Logic.{_↔_, _⊎_}
 use Prim.Native.Nat.{ℕ, _*_, _≤_, _<_}
 use lib.ListN.{length, getD, take, drop, replicate}
-use Rattle.families.specs.Families.{familyOf, IsNode}
+use Rattle.families.specs.Families.{familyOf, IsNode, nodeCount, columnOf, nodeOf, areRelated}
 use Rattle.encoding.specs.Encode.{encodeAnswer}
-use Rattle.boxes.specs.Box.{namesIn, bodyOf}
+use Rattle.checks.specs.Checks.{firstMet}
+use Rattle.checks.specs.Claims.{InRange}
+use Rattle.boxes.specs.Box.{lengthIn, namesIn, bodyChecks, bodyOf}
 use Rattle.planning.specs.Pairs.{NoPairLeft}
 use Rattle.leftover.specs.Open.{Open, OpenCount}
 use Rattle.repair.specs.declared.Session.{Session}
@@ -26,12 +28,23 @@ use Rattle.repair.specs.WholeWay.{LowestOpen, NoneOpen, Way, startOf, nodesEnco
 use Rattle.mogtriz.specs.declared.sessions.MarkedSession.{MarkedSession}
 use Rattle.mogtriz.specs.Sessions.{someAbove1, sessionForC, sessionOfC, startedC, writtenC, outWrittenC, readOutC, objectOutC, partIn}
 use Rattle.mogtriz.specs.Repairs.{steppedC, nodesSteppedC, plannedC, outPlannedC, ranC, nodesRanC}
+use Rattle.mogtriz.specs.Exports.{nodeCountOr0, columnOr0, nodeOr0, relatedOr0}
 use Rattle.mogtriz.specs.Calls.{lastSessionC, HeldC, heldAfterC}
 
 -- ---- a session handed to C and back
 
+-- it is the same session
 abbrev pub ThereAndBackClaim : Type 0
 ThereAndBackClaim = (s : Session) → sessionOfC (sessionForC s) ≡ s
+
+-- family, k and L are C's fields of the same name
+pub record SameFields (s : Session) : Type 0 where
+  pub family : sessionForC s .family ≡ s .family
+  pub k : sessionForC s .k ≡ s .k
+  pub len : sessionForC s .len ≡ s .len
+
+abbrev pub SameFieldsClaim : Type 0
+SameFieldsClaim = (s : Session) → SameFields s
 
 -- and one of C's with no byte above 1, taken in and handed out again
 abbrev pub BackAndThereClaim : Type 0
@@ -142,9 +155,34 @@ AgreeClaim = (s : Session) → Agree s
 
 -- ---- the body of a node
 
--- the part of the box that mogtriz_body tells is the body: none where it is refused
+-- of any box and number
+pub record PartOf (bytes : List ℕ) (j : ℕ) : Type 0 where
+  -- mogtriz_body gives the number of the body's checks, and zeros with it
+  pub number : partIn bytes j .refusal ≡ firstMet (bodyChecks bytes j)
+  pub refused : Refused (partIn bytes j .refusal) → partIn bytes j ≡ record { refusal = partIn bytes j .refusal; from = 0; length = 0 }
+  -- the part of the box that it tells is the body, and that of a body that is not refused is L bytes
+  pub part : take (partIn bytes j .length) (drop (partIn bytes j .from) bytes) ≡ bodyOf bytes j
+  pub size : partIn bytes j .refusal ≡ 0 → partIn bytes j .length ≡ lengthIn bytes
+
 abbrev pub PartClaim : Type 0
-PartClaim = (bytes : List ℕ) (j : ℕ) → take (partIn bytes j .length) (drop (partIn bytes j .from) bytes) ≡ bodyOf bytes j
+PartClaim = (bytes : List ℕ) (j : ℕ) → PartOf bytes j
+
+-- ---- families
+
+-- of a family's number and a k that are in range, whatever L is: 1, 2 and 3 are refused as for L 1
+pub record Answers (family k : ℕ) : Type 0 where
+  -- mogtriz_node_count gives n, mogtriz_column a node's column, and mogtriz_node_of_column the node of a column
+  pub count : nodeCountOr0 family k ≡ nodeCount (familyOf family) k
+  pub column : (j : ℕ) → IsNode (familyOf family) k j → columnOr0 family k j ≡ columnOf (familyOf family) k j
+  pub node : (c : ℕ) → nodeOr0 family k c ≡ nodeOf (familyOf family) k c
+  -- mogtriz_related gives 1 for three nodes that are related, and 0 for three others
+  pub related : (a b c : ℕ) → IsNode (familyOf family) k a → IsNode (familyOf family) k b → IsNode (familyOf family) k c
+      → areRelated (familyOf family) k a b c ≡ true → relatedOr0 family k a b c ≡ 1
+  pub unrelated : (a b c : ℕ) → IsNode (familyOf family) k a → IsNode (familyOf family) k b → IsNode (familyOf family) k c
+      → areRelated (familyOf family) k a b c ≡ false → relatedOr0 family k a b c ≡ 0
+
+abbrev pub AnswersClaim : Type 0
+AnswersClaim = (family k : ℕ) → InRange family k 1 → Answers family k
 
 -- ---- demand 3, for C
 
@@ -219,6 +257,10 @@ pub record WholeWayC (way : Way) (moves : List Move) : Type 0 where
   pub back : (result : List ℕ) → length result ≡ way .k * way .len → (M : ℕ) → 1 ≤ M
       → OutWhereOpenC (ranC (heldAtC way moves .session) (heldAtC way moves .nodes) .session) (nodesRanC (heldAtC way moves .session) (heldAtC way moves .nodes)) result
       (namesIn (boxAwayC way)) M
+  -- and then it leaves the object
+  pub again : (result : List ℕ)
+      → readOutC (ranC (heldAtC way moves .session) (heldAtC way moves .nodes) .session) (nodesRanC (heldAtC way moves .session) (heldAtC way moves .nodes)) result .refusal ≡ 0
+      → objectOutC (ranC (heldAtC way moves .session) (heldAtC way moves .nodes) .session) (nodesRanC (heldAtC way moves .session) (heldAtC way moves .nodes)) result ≡ way .object
 
 -- for every family, k, L and object, every start and list that are accepted, every buffer, and every list of calls
 abbrev pub WholeWayCClaim : Type 0

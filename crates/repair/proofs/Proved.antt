@@ -1,12 +1,11 @@
 -- The claims of specs/Claims.antt.
 -- Assumes nothing.
 use mathlib.Core.Path.{_≡_, refl, sym, ap, _∙_}
-use mathlib.Core.Bool.{Bool, true, false}
-use mathlib.Core.List.{List}
-use Prim.Native.Nat.{ℕ, _≤_, _<_}
-use native.Mathlib.Nat.{mul-le-mul-right}
+use mathlib.Core.Bool.{Bool, false}
+use mathlib.Core.List.{List, [], _∷_}
+use Prim.Native.Nat.{ℕ, _<_}
 use native.Mathlib.Omega.{arith}
-use borrow.Author.Tests.{lt-ltb, ltb-true, ltb-false}
+use borrow.Author.Tests.{lt-ltb, ltb-true}
 use lib.Dec.{ltb}
 use lib.ListN.{length}
 use Rattle.families.specs.Families.{familyOf, nodeCount}
@@ -15,10 +14,11 @@ use Rattle.checks.specs.Checks.{firstMet}
 use Rattle.checks.proofs.Laws.{parameters-in}
 use Rattle.lists.specs.Lists.{placeIn, noneLive, isLive, setLive, liveNodes, liveOutside}
 use Rattle.lists.proofs.Laws.{live-of-list, marks-of-live-nodes, list-outside-none, outside-more}
-use Rattle.boxes.specs.Box.{familyIn, kIn, lengthIn, namesIn, nodesIn, heldIn, boxLength, boxChecks}
+use Rattle.boxes.specs.Box.{familyIn, kIn, lengthIn, namesIn, nodesIn, boxChecks}
 use Rattle.boxes.proofs.Answers.{by-length, by-box, body-empty}
 use Rattle.boxes.proofs.Laws.{accepted-box}
 use Rattle.boxes.proofs.Proved.{body-claim, box-of-body-claim}
+use Rattle.repair.specs.declared.Session.{Session}
 use Rattle.repair.specs.declared.Started.{Started}
 use Rattle.repair.specs.Session.{started, nodesOf, noStart}
 use Rattle.repair.specs.Boxed.{checkedBox, listed}
@@ -94,6 +94,10 @@ start-marks-claim family k L list r j h =
 
 -- ---- write and read
 
+listed-named : (s : Session) (list : List ℕ) → (list ≡ [] → ⊥) → listed s list ≡ list
+listed-named s [] some = absurd (some refl)
+listed-named s (j ∷ list) some = refl
+
 pub write-read-claim : WriteReadClaim
 write-read-claim s nodes list out h =
     let e = write-accepted s nodes list out h in
@@ -103,6 +107,7 @@ write-read-claim s nodes list out h =
       room = write-room s nodes list out e;
       rest = write-rest s nodes list out e;
       names = box-names s nodes list out e;
+      by-list = λ some. box-names s nodes list out e ∙ listed-named s list some;
       checks = box-checked s nodes list out e;
       reads = box-reads s nodes list out e;
       bodies = bodies-read s nodes list out e;
@@ -130,18 +135,10 @@ written-body-claim s nodes list out h i l =
 
 -- ---- a page that counts another number
 
--- two numbers of nodes have two lengths
-one-count : (L m E : ℕ) → boxLength m L ≡ boxLength E L → m ≡ E
-one-count L m E e = either (ltb m E) refl
-  where
-    either : (less : Bool) → ltb m E ≡ less → m ≡ E
-    either true h = let l = ltb-true m E h in let g : m ≤ E = omega (arith, l) in omega (arith, l, mul-le-mul-right L g)
-    either false h = let l = ltb-false m E h in omega (arith, l, mul-le-mul-right L l)
-
 pub wrong-count-claim : WrongCountClaim
 unfolding checkedBox
-wrong-count-claim bytes m long e z size other =
-    let b = by-length bytes long e z (λ s. other (one-count (lengthIn bytes) m (heldIn bytes) (sym size ∙ s))) in
+wrong-count-claim bytes long e z other =
+    let b = by-length bytes long e z other in
     let some : firstMet (boxChecks bytes) ≡ 0 → ⊥ = λ none. omega (arith, b) in
     record {
       check = rw b;

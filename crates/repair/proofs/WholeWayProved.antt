@@ -1,6 +1,6 @@
 -- The claims of specs/WholeWay.antt.
 -- Assumes nothing.
-use mathlib.Core.Path.{_≡_, refl, sym, ap, ap₂, _∙_}
+use mathlib.Core.Path.{_≡_, refl, sym, ap, ap₂, _∙_, subst}
 use mathlib.Core.Bool.{Bool, true, false, not, false≢true}
 use mathlib.Core.List.{List, [], _∷_, _++_}
 use mathlib.Core.Logic.{_↔_}
@@ -31,13 +31,13 @@ use Rattle.repair.specs.declared.Started.{Started}
 use Rattle.repair.specs.declared.ReadOut.{ReadOut}
 use Rattle.repair.specs.Session.{sessionOf, started, nodesOf, nodesChecks}
 use Rattle.repair.specs.Boxed.{checkedBox, readChecks, readBox, nodesRead, listed, writeChecks, written}
-use Rattle.repair.specs.ReadOut.{missingIn, readOut}
+use Rattle.repair.specs.ReadOut.{missingIn, readOut, objectOut}
 use Rattle.repair.specs.Repairs.{ran, nodesRan}
 use Rattle.repair.specs.Calls.{Move, run, sessionAfter, nodesAfter, Call, sessionAfterAll, liveAfter, Held, heldAfter}
 use Rattle.repair.specs.LeftOver.{isIn, lastSession, LeftOver}
 use Rattle.repair.specs.Claims.{boxWritten}
 use Rattle.repair.specs.RepairClaims.{LiveAreOwn, OwnClaims}
-use Rattle.repair.specs.WholeWay.{Fits, FitsClaim, WriteLiveClaim, BodiesAreOwn, OwnBoxClaim, MissingOpenClaim, LowestOpen, NoneOpen, OutWhereOpen, OutAfterRunClaim, Way, startOf, nodesEncoded, boxAway, heldAt, OnTheWay, WholeWayClaim}
+use Rattle.repair.specs.WholeWay.{Fits, FitsClaim, WriteLiveClaim, BodiesAreOwn, OwnBoxClaim, MissingOpenClaim, LowestOpen, NoneOpen, OutWhereOpen, OutWhereLiveClaim, OutAfterRunClaim, Way, startOf, nodesEncoded, boxAway, heldAt, OnTheWay, WholeWayClaim}
 use Rattle.repair.proofs.Accepted.{start-accepted, check-accepted, read-accepted, write-accepted, run-accepted}
 use Rattle.repair.proofs.StartLaws.{known, nodes-0}
 use Rattle.repair.proofs.ReadOutLaws.{by-block, accepted-out, read}
@@ -176,10 +176,9 @@ module _ (family k L : ℕ) (list : List ℕ) (h : started family k L list .refu
 pub missing-open-claim : MissingOpenClaim
 missing-open-claim family k L list h calls nodes e M some j n = missing-open family k L list h calls nodes e M some j n
 
--- ---- read out where the missing nodes are the open ones
+-- ---- read out
 
-module _ (s : Session) (nodes result list : List ℕ) (M : ℕ) (fits : Fits s nodes) (size : length result ≡ s .k * s .len)
-    (missing : (j : ℕ) → IsNode (familyOf (s .family)) (s .k) j → (isLive (s .live) j ≡ false) ↔ Open (familyOf (s .family)) (s .k) M list j) where
+module _ (s : Session) (nodes result : List ℕ) (fits : Fits s nodes) (size : length result ≡ s .k * s .len) where
   abbrev code : Family
   code = familyOf (s .family)
 
@@ -193,26 +192,6 @@ module _ (s : Session) (nodes result list : List ℕ) (M : ℕ) (fits : Fits s n
 
   accepts : firstMet (nodesChecks s (length nodes)) ≡ 0
   accepts = nodes-0 s (length nodes) (fits .starts) (fits .size)
-
-  module _ (i : ℕ) (l : 1 ≤ i) (h : i ≤ s .k) where
-    node : IsNode code (s .k) (dataNode code (s .k) i)
-    node = data-node code (s .k) i (known s (fits .starts) .range .blocks) l h .is-node
-
-    gone-open : gone i ≡ true → Open code (s .k) M list (dataNode code (s .k) i)
-    gone-open g = missing _ node .0 (not-true _ g)
-
-    there-shut : gone i ≡ false → Open code (s .k) M list (dataNode code (s .k) i) → ⊥
-    there-shut g o = false≢true (sym (missing _ node .1 o) ∙ not-false _ g)
-
-    open-gone : Open code (s .k) M list (dataNode code (s .k) i) → gone i ≡ true
-    open-gone o = ap not (missing _ node .1 o)
-
-    shut-there : (Open code (s .k) M list (dataNode code (s .k) i) → ⊥) → gone i ≡ false
-    shut-there n = go (gone i) refl
-      where
-        go : (b : Bool) → gone i ≡ b → gone i ≡ false
-        go true g = absurd (n (gone-open g))
-        go false g = g
 
   -- what read out gives, by the lowest missing block
   none-missing : missingIn s ≡ 0 → readOut s nodes result ≡ record { refusal = 0; block = 0; session = s }
@@ -241,34 +220,69 @@ module _ (s : Session) (nodes result list : List ℕ) (M : ℕ) (fits : Fits s n
   before first m l h less true g = absurd (omega (arith, first-least gone 1 (s .k) m (omega arith) l (omega arith) g .1))
   before first m l h less false g = g
 
-  pub out-where-open : OutWhereOpen s nodes result list M
-  out-where-open = record { accepted = (all-shut, all-there); refused = λ i. (lowest i, first i) }
+  pub out-where-live : (readOut s nodes result .refusal ≡ 0) ↔ ((i : ℕ) → 1 ≤ i → i ≤ s .k → isLive (s .live) (dataNode code (s .k) i) ≡ true)
+  out-where-live = (all-live, (λ live. ap (λ (r : ReadOut). r .refusal) (none-missing (is-missing ∙ first-none gone 1 (s .k) (λ i l h. ap not (live i l (omega arith)))))))
     where
-      all-shut : readOut s nodes result ≡ record { refusal = 0; block = 0; session = s } → NoneOpen (s .family) (s .k) M list
-      all-shut is i l h = there-shut i l h (first-zero gone 1 (s .k) (omega arith) (sym is-missing ∙ told 0 0 is) i l (omega arith))
+      none : readOut s nodes result .refusal ≡ 0 → Dec (missingIn s ≡ 0) → missingIn s ≡ 0
+      none h (yes z) = z
+      none h (no n) = absurd (omega (arith, h, ap (λ (r : ReadOut). r .refusal) (some-missing (missingIn s) refl (omega arith))))
 
-      all-there : NoneOpen (s .family) (s .k) M list → readOut s nodes result ≡ record { refusal = 0; block = 0; session = s }
-      all-there n = none-missing (is-missing ∙ first-none gone 1 (s .k) (λ i l h. shut-there i l (omega arith) (n i l (omega arith))))
+      all-live : readOut s nodes result .refusal ≡ 0 → (i : ℕ) → 1 ≤ i → i ≤ s .k → isLive (s .live) (dataNode code (s .k) i) ≡ true
+      all-live h i l g = not-false _ (first-zero gone 1 (s .k) (omega arith) (sym is-missing ∙ none h (ℕ-discrete (missingIn s) 0)) i l (omega arith))
 
-      lowest : (i : ℕ) → readOut s nodes result ≡ record { refusal = 14; block = i; session = s } → LowestOpen (s .family) (s .k) M list i
-      lowest i is =
-          let first : firstFrom gone 1 (s .k) ≡ i = sym is-missing ∙ told 14 i is in
-          let some = told-some i is in
-          let at : Found gone 1 (s .k) i = rw first at (found gone 1 (s .k) (omega arith)) in
-          let last : i ≤ s .k = omega (arith, at .below) in
-          record {
-            first = some;
-            last = last;
-            is-open = gone-open i some last (at .passes);
-            lowest = λ m l h. there-shut m l (omega arith) (before first m l (omega arith) h (gone m) refl);
-          }
+  -- where the missing nodes are the open ones
+  module _ (list : List ℕ) (M : ℕ) (missing : (j : ℕ) → IsNode (familyOf (s .family)) (s .k) j → (isLive (s .live) j ≡ false) ↔ Open (familyOf (s .family)) (s .k) M list j) where
+    module _ (i : ℕ) (l : 1 ≤ i) (h : i ≤ s .k) where
+      node : IsNode code (s .k) (dataNode code (s .k) i)
+      node = data-node code (s .k) i (known s (fits .starts) .range .blocks) l h .is-node
 
-      first : (i : ℕ) → LowestOpen (s .family) (s .k) M list i → readOut s nodes result ≡ record { refusal = 14; block = i; session = s }
-      first i o =
-          some-missing i
-          (is-missing ∙ first-of gone 1 (s .k) i (o .first) (omega (arith, o .last)) (open-gone i (o .first) (o .last) (o .is-open))
-          (λ m l h. shut-there m l (omega (arith, o .last)) (o .lowest m l h)))
-          (o .first)
+      gone-open : gone i ≡ true → Open code (s .k) M list (dataNode code (s .k) i)
+      gone-open g = missing _ node .0 (not-true _ g)
+
+      there-shut : gone i ≡ false → Open code (s .k) M list (dataNode code (s .k) i) → ⊥
+      there-shut g o = false≢true (sym (missing _ node .1 o) ∙ not-false _ g)
+
+      open-gone : Open code (s .k) M list (dataNode code (s .k) i) → gone i ≡ true
+      open-gone o = ap not (missing _ node .1 o)
+
+      shut-there : (Open code (s .k) M list (dataNode code (s .k) i) → ⊥) → gone i ≡ false
+      shut-there n = go (gone i) refl
+        where
+          go : (b : Bool) → gone i ≡ b → gone i ≡ false
+          go true g = absurd (n (gone-open g))
+          go false g = g
+
+    pub out-where-open : OutWhereOpen s nodes result list M
+    out-where-open = record { accepted = (all-shut, all-there); refused = λ i. (lowest i, first i) }
+      where
+        all-shut : readOut s nodes result ≡ record { refusal = 0; block = 0; session = s } → NoneOpen (s .family) (s .k) M list
+        all-shut is i l h = there-shut i l h (first-zero gone 1 (s .k) (omega arith) (sym is-missing ∙ told 0 0 is) i l (omega arith))
+
+        all-there : NoneOpen (s .family) (s .k) M list → readOut s nodes result ≡ record { refusal = 0; block = 0; session = s }
+        all-there n = none-missing (is-missing ∙ first-none gone 1 (s .k) (λ i l h. shut-there i l (omega arith) (n i l (omega arith))))
+
+        lowest : (i : ℕ) → readOut s nodes result ≡ record { refusal = 14; block = i; session = s } → LowestOpen (s .family) (s .k) M list i
+        lowest i is =
+            let first : firstFrom gone 1 (s .k) ≡ i = sym is-missing ∙ told 14 i is in
+            let some = told-some i is in
+            let at : Found gone 1 (s .k) i = rw first at (found gone 1 (s .k) (omega arith)) in
+            let last : i ≤ s .k = omega (arith, at .below) in
+            record {
+              first = some;
+              last = last;
+              is-open = gone-open i some last (at .passes);
+              lowest = λ m l h. there-shut m l (omega arith) (before first m l (omega arith) h (gone m) refl);
+            }
+
+        first : (i : ℕ) → LowestOpen (s .family) (s .k) M list i → readOut s nodes result ≡ record { refusal = 14; block = i; session = s }
+        first i o =
+            some-missing i
+            (is-missing ∙ first-of gone 1 (s .k) i (o .first) (omega (arith, o .last)) (open-gone i (o .first) (o .last) (o .is-open))
+            (λ m l h. shut-there m l (omega (arith, o .last)) (o .lowest m l h)))
+            (o .first)
+
+pub out-where-live-claim : OutWhereLiveClaim
+out-where-live-claim s nodes result fits size = out-where-live s nodes result fits size
 
 pub out-after-run-claim : OutAfterRunClaim
 out-after-run-claim family k L list h calls nodes e other result size room M some =
@@ -278,7 +292,7 @@ out-after-run-claim family k L list h calls nodes e other result size room M som
     let marks : length (lastSession family k L list calls .live) ≡ 256 = rw before (length-setLive noneLive (liveAfter family k L list calls)) in
     let starts = ran-sized (lastSession family k L list calls) nodes (run-accepted (lastSession family k L list calls) nodes e) marks .starts in
     let fits : Fits s other = record { marks = length-setLive noneLive _; starts = rw is at starts; size = size } in
-    rw is (out-where-open s other result list M fits room (λ j n. rw is at (missing-open family k L list h calls nodes e M some j n)))
+    rw is (out-where-open s other result fits room list M (λ j n. rw is at (missing-open family k L list h calls nodes e M some j n)))
 
 -- ---- the whole way
 
@@ -287,6 +301,14 @@ held-fits : (s : Session) (nodes : List ℕ) (moves : List Move) → Fits s node
 unfolding heldAfter
 held-fits s nodes [] f = f
 held-fits s nodes (move ∷ moves) f = held-fits (sessionAfter s nodes move) (nodesAfter s nodes move) moves (fits-call s nodes f move)
+
+-- one more run
+held-more : (s : Session) (nodes : List ℕ) (moves : List Move)
+    → heldAfter s nodes (moves ++ (run ∷ []))
+    ≡ record { session = ran (heldAfter s nodes moves .session) (heldAfter s nodes moves .nodes) .session; nodes = nodesRan (heldAfter s nodes moves .session) (heldAfter s nodes moves .nodes) }
+unfolding heldAfter
+held-more s nodes [] = refl
+held-more s nodes (move ∷ moves) = held-more (sessionAfter s nodes move) (nodesAfter s nodes move) moves
 
 -- the calls on one buffer, each with the buffer as it gets it
 callsOn : Session → List ℕ → List Move → List Call
@@ -399,4 +421,6 @@ whole-way-claim way on moves =
       out = λ result h. own way on moves .out result h;
       runs = read-runs (boxAway way) (way .other) (read-accepted (boxAway way) (way .other) (on .read)) moves;
       back = back way on moves;
+      again = subst (λ (h : Held). (result : List ℕ) → readOut (h .session) (h .nodes) result .refusal ≡ 0 → objectOut (h .session) (h .nodes) result ≡ way .object)
+          (held-more (readBox (boxAway way) (way .other) .session) (nodesRead (boxAway way) (way .other)) moves) (own way on (moves ++ (run ∷ [])) .out);
     }

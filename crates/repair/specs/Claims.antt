@@ -53,8 +53,9 @@ pub record WriteReadClaims (s : Session) (nodes list out : List ℕ) : Type 0 wh
   pub answer : written s nodes list out ≡ record { refusal = 0; length = length (boxWritten s nodes list out); session = s }
   pub room : length (boxWritten s nodes list out) ≤ length out
   pub rest : outWritten s nodes list out ≡ boxWritten s nodes list out ++ drop (length (boxWritten s nodes list out)) out
-  -- the box names the listed nodes, checks to their session, and reads, into whatever buffer, to the same bodies
+  -- the box names the listed nodes, which are those of a list that is not empty, checks to their session, and reads, into whatever buffer, to the same bodies
   pub names : namesIn (boxWritten s nodes list out) ≡ listed s list
+  pub by-list : (list ≡ [] → ⊥) → namesIn (boxWritten s nodes list out) ≡ list
   pub checks : checkedBox (boxWritten s nodes list out) ≡ record { refusal = 0; session = sessionOf (s .family) (s .k) (s .len) (listed s list) }
   pub reads : (other : List ℕ) → length other ≡ nodesOf s * s .len → readBox (boxWritten s nodes list out) other ≡ checkedBox (boxWritten s nodes list out)
   pub bodies : (other : List ℕ) → length other ≡ nodesOf s * s .len → (i : ℕ) → i < length (listed s list)
@@ -116,7 +117,8 @@ pub record Cut (bytes : List ℕ) : Type 0 where
   pub read : (nodes : List ℕ) → (readBox bytes nodes ≡ refusedStart 7) × (nodesRead bytes nodes ≡ nodes)
   pub body : (j : ℕ) → (firstMet (bodyChecks bytes j) ≡ 7) × (bodyOf bytes j ≡ [])
 
--- a page that counts E nodes with the length for another number of them gives 7, before any number or body is looked at
+-- a page that counts E nodes with a length for another number of them, or any other length, gives 7, before any number or body is
+-- looked at
 abbrev pub WrongCountClaim : Type 0
-WrongCountClaim = (bytes : List ℕ) (m : ℕ) → 8 ≤ length bytes → firstMet (parameterChecks (familyIn bytes) (kIn bytes) (lengthIn bytes)) ≡ 0 → zerosIn bytes ≡ true
-    → length bytes ≡ boxLength m (lengthIn bytes) → (m ≡ heldIn bytes → ⊥) → Cut bytes
+WrongCountClaim = (bytes : List ℕ) → 8 ≤ length bytes → firstMet (parameterChecks (familyIn bytes) (kIn bytes) (lengthIn bytes)) ≡ 0 → zerosIn bytes ≡ true
+    → (length bytes ≡ boxLength (heldIn bytes) (lengthIn bytes) → ⊥) → Cut bytes

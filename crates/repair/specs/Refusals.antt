@@ -1,32 +1,44 @@
 -- A call that is turned away (demand 1): it gives its number and zeros, the session as handed in, and no byte is written;
 -- proofs/RefusalsProved.antt has the proofs.
 use mathlib.Core.Path.{_≡_}
-use mathlib.Core.Bool.{true, cond}
+use mathlib.Core.Bool.{true, false, cond}
 use mathlib.Core.List.{List, []}
 use Prim.Native.Nat.{ℕ}
 use lib.Dec.{eqb}
+use lib.ListN.{replicate}
 use Rattle.checks.specs.Checks.{firstMet}
 use Rattle.encoding.specs.Encode.{encodeAnswer, encoded}
 use Rattle.boxes.specs.Box.{bodyChecks, bodyOf}
 use Rattle.repair.specs.declared.Session.{Session}
-use Rattle.repair.specs.Session.{refusedStart, started, noStart}
+use Rattle.repair.specs.declared.Started.{Started}
+use Rattle.repair.specs.declared.Repairs.{Repairs}
+use Rattle.repair.specs.Session.{started, noStart}
 use Rattle.repair.specs.Boxed.{checkedBox, readBox, nodesRead, written, outWritten}
 use Rattle.repair.specs.ReadOut.{missingIn, readOut, objectOut}
 use Rattle.repair.specs.Step.{stepped, nodesStepped}
-use Rattle.repair.specs.Repairs.{refusedRepairs, planned, outPlanned, ran, nodesRan}
+use Rattle.repair.specs.Repairs.{planned, outPlanned, ran, nodesRan}
 
 -- the number is a refusal's
 abbrev pub Refused : ℕ → Type 0
 Refused number = number ≡ 0 → ⊥
 
+-- what a refused start, check or read gives: its number, and a session of zeros with every mark missing
+abbrev pub noSession : ℕ → Started
+noSession number = record { refusal = number; session = record { family = 0; k = 0; len = 0; live = replicate 256 false } }
+
+-- what a refused plan or run gives: its number and zeros, and the session as handed in
+abbrev pub noSteps : Session → ℕ → Repairs
+noSteps s number = record { refusal = number; steps = 0; rounds = 0; left = 0; session = s }
+
+-- of every operation
 pub record RefusalClaim : Type 0 where
   -- encode leaves the nodes buffer
   pub encode : (family k L : ℕ) (object nodes : List ℕ) → Refused (encodeAnswer family k L object nodes) → encoded family k L object nodes ≡ nodes
   -- a start, a check and a read give a session of zeros with every mark missing, and a read leaves the nodes buffer
-  pub start : (family k L : ℕ) (list : List ℕ) → Refused (started family k L list .refusal) → started family k L list ≡ refusedStart (started family k L list .refusal)
-  pub check : (bytes : List ℕ) → Refused (checkedBox bytes .refusal) → checkedBox bytes ≡ refusedStart (checkedBox bytes .refusal)
+  pub start : (family k L : ℕ) (list : List ℕ) → Refused (started family k L list .refusal) → started family k L list ≡ noSession (started family k L list .refusal)
+  pub check : (bytes : List ℕ) → Refused (checkedBox bytes .refusal) → checkedBox bytes ≡ noSession (checkedBox bytes .refusal)
   pub read : (bytes nodes : List ℕ) → Refused (readBox bytes nodes .refusal)
-      → (readBox bytes nodes ≡ refusedStart (readBox bytes nodes .refusal)) × (nodesRead bytes nodes ≡ nodes)
+      → (readBox bytes nodes ≡ noSession (readBox bytes nodes .refusal)) × (nodesRead bytes nodes ≡ nodes)
   -- a body is an empty part
   pub body : (bytes : List ℕ) (j : ℕ) → Refused (firstMet (bodyChecks bytes j)) → bodyOf bytes j ≡ []
   -- write gives length 0 and leaves its destination
@@ -40,9 +52,9 @@ pub record RefusalClaim : Type 0 where
   pub step : (s : Session) (nodes : List ℕ) (j a b : ℕ) → Refused (stepped s nodes j a b .refusal)
       → (stepped s nodes j a b ≡ record { refusal = stepped s nodes j a b .refusal; session = s }) × (nodesStepped s nodes j a b ≡ nodes)
   pub plan : (s : Session) (out : List ℕ) → Refused (planned s out .refusal)
-      → (planned s out ≡ refusedRepairs s (planned s out .refusal)) × (outPlanned s out ≡ out)
+      → (planned s out ≡ noSteps s (planned s out .refusal)) × (outPlanned s out ≡ out)
   pub run : (s : Session) (nodes : List ℕ) → Refused (ran s nodes .refusal)
-      → (ran s nodes ≡ refusedRepairs s (ran s nodes .refusal)) × (nodesRan s nodes ≡ nodes)
+      → (ran s nodes ≡ noSteps s (ran s nodes .refusal)) × (nodesRan s nodes ≡ nodes)
 
 -- every operation of a session gives 13, whatever is asked for
 pub record Thirteen (s : Session) : Type 0 where

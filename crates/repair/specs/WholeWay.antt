@@ -1,7 +1,7 @@
 -- The whole way of an object (demand 2): encoded, put away as a box, read, taken through steps and runs, and read out;
 -- proofs/WholeWayProved.antt has the proofs.
 use mathlib.Core.Path.{_≡_}
-use mathlib.Core.Bool.{false}
+use mathlib.Core.Bool.{true, false}
 use mathlib.Core.List.{List, []}
 use mathlib.Core.Logic.{_↔_}
 use Prim.Native.Nat.{ℕ, _*_, _≤_, _<_}
@@ -77,6 +77,13 @@ pub record OwnBoxClaim : Type 0 where
   -- and a box with the object's bodies is read to its own blocks, into a buffer of any content
   pub read : (object bytes nodes : List ℕ) → BodiesAreOwn object bytes → readBox bytes nodes .refusal ≡ 0
       → LiveAreOwn object (readBox bytes nodes .session) (nodesRead bytes nodes)
+
+-- ---- read out
+
+-- of a session and a nodes buffer that go together, into k × L bytes, it is accepted exactly where every data block's node is live
+abbrev pub OutWhereLiveClaim : Type 0
+OutWhereLiveClaim = (s : Session) (nodes result : List ℕ) → Fits s nodes → length result ≡ s .k * s .len
+    → (readOut s nodes result .refusal ≡ 0) ↔ ((i : ℕ) → 1 ≤ i → i ≤ s .k → isLive (s .live) (dataNode (familyOf (s .family)) (s .k) i) ≡ true)
 
 -- ---- read out after a run
 
@@ -163,6 +170,10 @@ pub record WholeWay (way : Way) (moves : List Move) : Type 0 where
   pub back : (result : List ℕ) → length result ≡ way .k * way .len → (M : ℕ) → 1 ≤ M
       → OutWhereOpen (ran (heldAt way moves .session) (heldAt way moves .nodes) .session) (nodesRan (heldAt way moves .session) (heldAt way moves .nodes)) result
       (namesIn (boxAway way)) M
+  -- and then it gives the object
+  pub again : (result : List ℕ)
+      → readOut (ran (heldAt way moves .session) (heldAt way moves .nodes) .session) (nodesRan (heldAt way moves .session) (heldAt way moves .nodes)) result .refusal ≡ 0
+      → objectOut (ran (heldAt way moves .session) (heldAt way moves .nodes) .session) (nodesRan (heldAt way moves .session) (heldAt way moves .nodes)) result ≡ way .object
 
 -- for every family, k, L and object, every start and list that are accepted, every buffer, and every list of steps and runs
 abbrev pub WholeWayClaim : Type 0
