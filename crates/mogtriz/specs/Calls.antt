@@ -35,6 +35,7 @@ pub record HeldC : Type 0 where
   pub session : MarkedSession
   pub nodes : List ℕ
 
+-- both after a list of steps and runs
 unfoldable pub heldAfterC : MarkedSession → List ℕ → List Move → HeldC
 heldAfterC s nodes [] = record { session = s; nodes = nodes }
 heldAfterC s nodes (move ∷ moves) = heldAfterC (sessionAfterC s nodes move) (nodesAfterC s nodes move) moves

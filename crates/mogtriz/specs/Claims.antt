@@ -249,6 +249,7 @@ pub record OutWhereOpenC (s : MarkedSession) (nodes result list : List ℕ) (M :
   pub accepted : (readOutC s nodes result ≡ record { refusal = 0; block = 0; session = s }) ↔ NoneOpen (s .family) (s .k) M list
   pub refused : (i : ℕ) → (readOutC s nodes result ≡ record { refusal = 14; block = i; session = s }) ↔ LowestOpen (s .family) (s .k) M list i
 
+-- what holds at its end
 pub record WholeWayC (way : Way) (moves : List Move) : Type 0 where
   -- every live block is the object's, and what mogtriz_read_out leaves, where it is accepted, is the object
   pub own : OwnC (way .object) (startedC (readBox (boxAwayC way) (way .other)) .session) (nodesRead (boxAwayC way) (way .other)) moves

@@ -55,6 +55,7 @@ pub record Held : Type 0 where
   pub session : Session
   pub nodes : List ℕ
 
+-- both after a list of steps and runs
 unfoldable pub heldAfter : Session → List ℕ → List Move → Held
 heldAfter s nodes [] = record { session = s; nodes = nodes }
 heldAfter s nodes (move ∷ moves) = heldAfter (sessionAfter s nodes move) (nodesAfter s nodes move) moves

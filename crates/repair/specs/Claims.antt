@@ -46,7 +46,7 @@ StartMarksClaim = (family k L : ℕ) (list : List ℕ) → started family k L li
 abbrev pub boxWritten : Session → List ℕ → List ℕ → List ℕ → List ℕ
 boxWritten s nodes list out = take (writtenLength s list) (outWritten s nodes list out)
 
--- of an accepted write
+-- what is written, what it checks to, and what it reads to
 pub record WriteReadClaims (s : Session) (nodes list out : List ℕ) : Type 0 where
   -- these bytes are the box of the listed nodes; their number is returned, there is room for them, and beyond them nothing is written
   pub box : boxWritten s nodes list out ≡ boxOf (s .family) (s .k) (s .len) (listed s list) nodes
@@ -61,6 +61,7 @@ pub record WriteReadClaims (s : Session) (nodes list out : List ℕ) : Type 0 wh
   pub bodies : (other : List ℕ) → length other ≡ nodesOf s * s .len → (i : ℕ) → i < length (listed s list)
       → blockOf (s .len) (nodesRead (boxWritten s nodes list out) other) (getD (listed s list) i 0) ≡ blockOf (s .len) nodes (getD (listed s list) i 0)
 
+-- of every accepted write
 abbrev pub WriteReadClaim : Type 0
 WriteReadClaim = (s : Session) (nodes list out : List ℕ) → written s nodes list out .refusal ≡ 0 → WriteReadClaims s nodes list out
 
@@ -98,7 +99,7 @@ WrittenBodyClaim = (s : Session) (nodes list out : List ℕ) → written s nodes
 
 -- ---- a box and its session
 
--- of an accepted box
+-- a box, its form and its session
 pub record BoxSession (bytes : List ℕ) : Type 0 where
   -- it is as document 01 says
   pub form : AcceptedBox bytes
@@ -108,6 +109,7 @@ pub record BoxSession (bytes : List ℕ) : Type 0 where
   -- a node not named is missing, and a named one is live
   pub named : (j : ℕ) → j < 256 → (isLive (checkedBox bytes .session .live) j ≡ true) ↔ Named bytes j
 
+-- of every box that is accepted
 abbrev pub BoxStartClaim : Type 0
 BoxStartClaim = (bytes : List ℕ) → checkedBox bytes .refusal ≡ 0 → BoxSession bytes
 

@@ -38,6 +38,7 @@ pub record SameCode (s next : Session) : Type 0 where
   pub k : next .k ≡ s .k
   pub len : next .len ≡ s .len
 
+-- which calls give such a pair, and accept it
 pub record FitsClaim : Type 0 where
   -- the session of an accepted start fits every buffer of n × L bytes
   pub start : (family k L : ℕ) (list nodes : List ℕ) → started family k L list .refusal ≡ 0 → length nodes ≡ nodeCount (familyOf family) k * L
@@ -67,6 +68,7 @@ BodiesAreOwn object bytes =
     → bodyOf bytes (getD (namesIn bytes) i 0)
     ≡ nodeBlock (kIn bytes) (lengthIn bytes) object (columnOf (familyOf (familyIn bytes)) (kIn bytes) (getD (namesIn bytes) i 0))
 
+-- encode, write and read hand the object's own blocks on
 pub record OwnBoxClaim : Type 0 where
   -- after encode, every live block of an accepted start is the object's
   pub encode : (family k L : ℕ) (object nodes list : List ℕ) → encodeAnswer family k L object nodes ≡ 0 → started family k L list .refusal ≡ 0
@@ -158,6 +160,7 @@ pub record OnTheWay (way : Way) : Type 0 where
   pub write : written (startOf way .session) (nodesEncoded way) (way .list) (way .out) .refusal ≡ 0
   pub read : readBox (boxAway way) (way .other) .refusal ≡ 0
 
+-- what holds at its end
 pub record WholeWay (way : Way) (moves : List Move) : Type 0 where
   -- every live block is the object's
   pub live : LiveAreOwn (way .object) (heldAt way moves .session) (heldAt way moves .nodes)
