@@ -31,28 +31,22 @@ either P false y n = n
 
 -- ---- from C
 
--- a number and a session, given for the session s
-pub record Back (s : MarkedSession) (refusal : ℕ) (given : MarkedSession) : Type 0 where
-  -- accepted, it has no byte above 1
-  pub marks : refusal ≡ 0 → someAbove1 (given .live) ≡ false
-  -- refused, it is s
-  pub kept : (refusal ≡ 0 → ⊥) → given ≡ s
+-- the session of an accepted answer has no byte above 1
+abbrev Low : ℕ → MarkedSession → Type 0
+Low refusal given = refusal ≡ 0 → someAbove1 (given .live) ≡ false
 
 module _ (s : MarkedSession) where
-  thirteen : Back s 13 s
-  thirteen = record { marks = λ e. absurd (omega arith); kept = λ h. refl }
-
-  handed : (refusal : ℕ) (next : Session) → Back s refusal (handedBack s refusal next)
+  handed-low : (refusal : ℕ) (next : Session) → Low refusal (handedBack s refusal next)
   unfolding handedBack
-  handed refusal next = record { marks = λ e. rw e (marks-low (next .live)); kept = λ h. rw (ne-eqb refusal 0 h) }
+  handed-low refusal next e = rw e (marks-low (next .live))
 
-  pub step-back : (nodes : List ℕ) (j a b : ℕ) → Back s (steppedC s nodes j a b .refusal) (steppedC s nodes j a b .session)
+  pub step-low : (nodes : List ℕ) (j a b : ℕ) → Low (steppedC s nodes j a b .refusal) (steppedC s nodes j a b .session)
   unfolding steppedC
-  step-back nodes j a b = either (λ (r : StepAnswer). Back s (r .refusal) (r .session)) (someAbove1 (s .live)) thirteen (handed _ _)
+  step-low nodes j a b = either (λ (r : StepAnswer). Low (r .refusal) (r .session)) (someAbove1 (s .live)) (λ e. absurd (omega arith)) (handed-low _ _)
 
-  pub run-back : (nodes : List ℕ) → Back s (ranC s nodes .refusal) (ranC s nodes .session)
+  pub run-low : (nodes : List ℕ) → Low (ranC s nodes .refusal) (ranC s nodes .session)
   unfolding ranC
-  run-back nodes = either (λ (r : RepairsAnswer). Back s (r .refusal) (r .session)) (someAbove1 (s .live)) thirteen (handed _ _)
+  run-low nodes = either (λ (r : RepairsAnswer). Low (r .refusal) (r .session)) (someAbove1 (s .live)) (λ e. absurd (omega arith)) (handed-low _ _)
 
 -- refused, the session that was handed in
 pub kept-session : (s : MarkedSession) (refusal : ℕ) (next : Session) → (refusal ≡ 0 → ⊥) → handedBack s refusal next ≡ s

@@ -25,7 +25,7 @@ use Rattle.mogtriz.specs.Repairs.{steppedC, nodesSteppedC, plannedC, out
 use Rattle.mogtriz.specs.Claims.{ThereAndBackClaim, BackAndThereClaim, StartedMarksClaim, HandedBackClaim, RefusedStartClaim, TurnedAway, TurnedAwayClaim, ThirteenC, ThirteenCClaim, SameFieldsClaim, PartOf, PartClaim, AnswersClaim, AgreeClaim}
 use Rattle.mogtriz.proofs.Laws.{count-accepted}
 use Rattle.mogtriz.proofs.MarkLaws.{marks-back, bytes-back, marks-low}
-use Rattle.mogtriz.proofs.AnswerLaws.{kept-session, either, step-back, run-back, step-done, run-done, handed-on, plan-kept, write-kept, read-out-kept}
+use Rattle.mogtriz.proofs.AnswerLaws.{kept-session, either, step-low, run-low, step-done, run-done, handed-on, plan-kept, write-kept, read-out-kept}
 
 pub there-and-back : ThereAndBackClaim
 there-and-back s = rw (marks-back (s .live))
@@ -40,10 +40,8 @@ pub handed-back-claim : HandedBackClaim
 unfolding plannedC writtenC readOutC
 handed-back-claim s =
     record {
-      step-marks = λ nodes j a b. step-back s nodes j a b .marks;
-      run-marks = λ nodes. run-back s nodes .marks;
-      step-refused = λ nodes j a b. step-back s nodes j a b .kept;
-      run-refused = λ nodes. run-back s nodes .kept;
+      step-marks = step-low s;
+      run-marks = run-low s;
       plan = λ out. either (λ (r : RepairsAnswer). r .session ≡ s) (someAbove1 (s .live)) refl refl;
       write = λ nodes list out. either (λ (r : WriteAnswer). r .session ≡ s) (someAbove1 (s .live)) refl refl;
       read-out = λ nodes object. either (λ (r : ReadOutAnswer). r .session ≡ s) (someAbove1 (s .live)) refl refl;

@@ -33,10 +33,6 @@ use Rattle.mogtriz.specs.Calls.{lastSessionC, HeldC, heldAfterC}
 
 -- ---- a session handed to C and back
 
--- it is the same session
-abbrev pub ThereAndBackClaim : Type 0
-ThereAndBackClaim = (s : Session) → sessionOfC (sessionForC s) ≡ s
-
 -- family, k and L are C's fields of the same name
 pub record SameFields (s : Session) : Type 0 where
   pub family : sessionForC s .family ≡ s .family
@@ -45,6 +41,10 @@ pub record SameFields (s : Session) : Type 0 where
 
 abbrev pub SameFieldsClaim : Type 0
 SameFieldsClaim = (s : Session) → SameFields s
+
+-- it is the same session
+abbrev pub ThereAndBackClaim : Type 0
+ThereAndBackClaim = (s : Session) → sessionOfC (sessionForC s) ≡ s
 
 -- and one of C's with no byte above 1, taken in and handed out again
 abbrev pub BackAndThereClaim : Type 0
@@ -61,10 +61,7 @@ pub record HandedBack (s : MarkedSession) : Type 0 where
   -- a step or a run that is accepted gives no byte above 1
   pub step-marks : (nodes : List ℕ) (j a b : ℕ) → steppedC s nodes j a b .refusal ≡ 0 → someAbove1 (steppedC s nodes j a b .session .live) ≡ false
   pub run-marks : (nodes : List ℕ) → ranC s nodes .refusal ≡ 0 → someAbove1 (ranC s nodes .session .live) ≡ false
-  -- one that is refused gives the session as it was handed in, byte for byte
-  pub step-refused : (nodes : List ℕ) (j a b : ℕ) → (steppedC s nodes j a b .refusal ≡ 0 → ⊥) → steppedC s nodes j a b .session ≡ s
-  pub run-refused : (nodes : List ℕ) → (ranC s nodes .refusal ≡ 0 → ⊥) → ranC s nodes .session ≡ s
-  -- plan, write and read out give it so always
+  -- plan, write and read out give the session as it was handed in, byte for byte, accepted or not
   pub plan : (out : List ℕ) → plannedC s out .session ≡ s
   pub write : (nodes list out : List ℕ) → writtenC s nodes list out .session ≡ s
   pub read-out : (nodes object : List ℕ) → readOutC s nodes object .session ≡ s
