@@ -2,3 +2,5 @@ pub mod Xor
 pub mod LowestBit
 pub mod Tests
 pub mod Fill
+pub mod First
+pub mod RangeLaws

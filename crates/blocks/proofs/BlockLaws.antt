@@ -8,7 +8,8 @@ use native.Mathlib.Decide.{decLt}
 use native.Mathlib.Omega.{arith}
 use lib.ListN.{length, take, drop, length-append, length-drop}
 use lib.Seq.{take-at, drop-at, take-nil, take-take, drop-drop, length-take-le}
-use Rattle.blocks.specs.Blocks.{blockOf, withBlock, InBuffer}
+use Rattle.blocks.specs.Blocks.{blockOf, withBlock}
+use Rattle.blocks.specs.Inner.{InBuffer}
 
 -- node i's block lies in the first m blocks
 pub block-fits : (L i m : ℕ) → 1 ≤ i → i ≤ m → (i - 1) * L + L ≤ m * L

@@ -13,7 +13,8 @@ use lib.ListN.{length, take, drop, getD, set, length-take, length-drop, length-a
 use lib.Seq.{take-all, take-at, drop-at, take-take, take-add, take-append-le, take-append-add, drop-drop, drop-cons, drop-append-le, drop-append-add, length-take-le, set-split}
 use borrow.Rule.Slice.PartMut.{midOf, putMid, same-len-mid}
 use Rattle.base.proofs.Fill.{filled}
-use Rattle.blocks.specs.Blocks.{xorBytes, blockOf, withBlock, InBuffer, BlocksIn}
+use Rattle.blocks.specs.Blocks.{xorBytes, blockOf, withBlock}
+use Rattle.blocks.specs.Inner.{InBuffer, BlocksIn}
 use Rattle.blocks.proofs.BlockLaws.{places}
 use Rattle.blocks.proofs.XorBytes.{length-xorBytes, xorBytes-comm}
 

@@ -1,7 +1,7 @@
 -- Blocks of a nodes buffer (document 01, "The collection's units"), and the bytewise XOR of two blocks. L is any length.
-use Prim.Native.Nat.{ℕ, _+_, _-_, _*_, _≤_}
+use Prim.Native.Nat.{ℕ, _+_, _-_, _*_}
 use mathlib.Core.List.{List, [], _∷_, _++_}
-use lib.ListN.{length, take, drop}
+use lib.ListN.{take, drop}
 use lib.Bits.{bitXor}
 
 -- the bytewise XOR of two blocks of one length
@@ -17,13 +17,3 @@ blockOf L nodes j = take L (drop ((j - 1) * L) nodes)
 -- the nodes buffer with another block for node j
 unfoldable pub withBlock : ℕ → List ℕ → ℕ → List ℕ → List ℕ
 withBlock L nodes j block = take ((j - 1) * L) nodes ++ (block ++ drop ((j - 1) * L + L) nodes)
-
--- node j's block lies in the nodes buffer
-pub record InBuffer (L : ℕ) (nodes : List ℕ) (j : ℕ) : Type 0 where
-  pub first : 1 ≤ j
-  pub last : (j - 1) * L + L ≤ length nodes
-
--- the blocks of count nodes from node j on lie in the nodes buffer
-pub record BlocksIn (L count : ℕ) (nodes : List ℕ) (j : ℕ) : Type 0 where
-  pub first : 1 ≤ j
-  pub last : (j - 1) * L + count * L ≤ length nodes

@@ -4,7 +4,8 @@ ghost use mathlib.Core.Logic.{_⊎_};
 ghost use Prim.Native.Nat.{_+_, _-_, _*_, _≤_};
 ghost use lib.ListN.{length};
 ghost use borrow.Rule.Slice.PartMut.{midOf, putMid};
-ghost use Rattle.blocks.specs.Blocks.{xorBytes, blockOf, withBlock, InBuffer, BlocksIn};
+ghost use Rattle.blocks.specs.Blocks.{xorBytes, blockOf, withBlock};
+ghost use Rattle.blocks.specs.Inner.{InBuffer, BlocksIn};
 
 // dst becomes src, of the same length.
 pub fn copy_block(dst: &mut [u8], src: &[u8])

@@ -13,15 +13,15 @@ use Rattle.checks.specs.Claims.{NoneMet}
 use Rattle.checks.specs.Parameters.{parameterChecks}
 use Rattle.checks.proofs.Laws.{accepted, parameters-none, none-zero, none-left, none-right, none-append, some-append, outside-low, outside-high, outside-no}
 use Rattle.lists.specs.Lists.{listChecks, placeIn}
-use Rattle.boxes.specs.Box.{familyIn, kIn, lengthIn, heldIn, zerosIn, namesIn, nodesIn, boxLength, boxChecks, bodyChecks, bodyStart, bodyOf}
+use Rattle.boxes.specs.Box.{familyIn, kIn, blockLengthIn, heldCountIn, zerosIn, namesIn, nodeCountIn, boxLength, boxChecks, bodyChecks, bodyStart, bodyOf}
 
 -- ---- a box
 
 abbrev pub parametersOf : List ℕ → List Check
-parametersOf bytes = parameterChecks (familyIn bytes) (kIn bytes) (lengthIn bytes)
+parametersOf bytes = parameterChecks (familyIn bytes) (kIn bytes) (blockLengthIn bytes)
 
-pub length-names : (bytes : List ℕ) → 8 + heldIn bytes ≤ length bytes → length (namesIn bytes) ≡ heldIn bytes
-length-names bytes h = length-take-le (heldIn bytes) (drop 8 bytes) (simp length-drop (omega arith))
+pub length-names : (bytes : List ℕ) → 8 + heldCountIn bytes ≤ length bytes → length (namesIn bytes) ≡ heldCountIn bytes
+length-names bytes h = length-take-le (heldCountIn bytes) (drop 8 bytes) (simp length-drop (omega arith))
 
 module _ (bytes : List ℕ) where
   pub by-short : length bytes < 8 → firstMet (boxChecks bytes) ≡ 7
@@ -40,31 +40,31 @@ module _ (bytes : List ℕ) where
 
     module _ (e : firstMet (parametersOf bytes) ≡ 0) where
       passed : NoneMet (parametersOf bytes)
-      passed = parameters-none (familyIn bytes) (kIn bytes) (lengthIn bytes) e
+      passed = parameters-none (familyIn bytes) (kIn bytes) (blockLengthIn bytes) e
 
       pub by-zeros : zerosIn bytes ≡ false → firstMet (boxChecks bytes) ≡ 8
       unfolding boxChecks firstMet
       by-zeros z = rw (le-ltb (length bytes) 8 long) (none-append (parametersOf bytes) _ passed ∙ rw z)
 
-      pub by-length : zerosIn bytes ≡ true → (length bytes ≡ boxLength (heldIn bytes) (lengthIn bytes) → ⊥) → firstMet (boxChecks bytes) ≡ 7
+      pub by-length : zerosIn bytes ≡ true → (length bytes ≡ boxLength (heldCountIn bytes) (blockLengthIn bytes) → ⊥) → firstMet (boxChecks bytes) ≡ 7
       unfolding boxChecks firstMet
       by-length z n =
           rw (le-ltb (length bytes) 8 long)
-          (none-append (parametersOf bytes) _ passed ∙ rw (z, ne-eqb (length bytes) (boxLength (heldIn bytes) (lengthIn bytes)) n))
+          (none-append (parametersOf bytes) _ passed ∙ rw (z, ne-eqb (length bytes) (boxLength (heldCountIn bytes) (blockLengthIn bytes)) n))
 
-      module _ (z : zerosIn bytes ≡ true) (s : length bytes ≡ boxLength (heldIn bytes) (lengthIn bytes)) where
-        pub by-held : nodesIn bytes < heldIn bytes → firstMet (boxChecks bytes) ≡ 9
+      module _ (z : zerosIn bytes ≡ true) (s : length bytes ≡ boxLength (heldCountIn bytes) (blockLengthIn bytes)) where
+        pub by-held : nodeCountIn bytes < heldCountIn bytes → firstMet (boxChecks bytes) ≡ 9
         unfolding boxChecks firstMet
         by-held h =
             rw (le-ltb (length bytes) 8 long)
-            (none-append (parametersOf bytes) _ passed ∙ rw (z, eq-eqb (length bytes) (boxLength (heldIn bytes) (lengthIn bytes)) s, lt-ltb (nodesIn bytes) (heldIn bytes) h))
+            (none-append (parametersOf bytes) _ passed ∙ rw (z, eq-eqb (length bytes) (boxLength (heldCountIn bytes) (blockLengthIn bytes)) s, lt-ltb (nodeCountIn bytes) (heldCountIn bytes) h))
 
         -- the last two are those of the node numbers
-        pub by-list : heldIn bytes ≤ nodesIn bytes → firstMet (boxChecks bytes) ≡ firstMet (listChecks (nodesIn bytes) (namesIn bytes))
+        pub by-list : heldCountIn bytes ≤ nodeCountIn bytes → firstMet (boxChecks bytes) ≡ firstMet (listChecks (nodeCountIn bytes) (namesIn bytes))
         unfolding boxChecks firstMet
         by-list h =
             rw (le-ltb (length bytes) 8 long)
-            (none-append (parametersOf bytes) _ passed ∙ rw (z, eq-eqb (length bytes) (boxLength (heldIn bytes) (lengthIn bytes)) s, le-ltb (nodesIn bytes) (heldIn bytes) h))
+            (none-append (parametersOf bytes) _ passed ∙ rw (z, eq-eqb (length bytes) (boxLength (heldCountIn bytes) (blockLengthIn bytes)) s, le-ltb (nodeCountIn bytes) (heldCountIn bytes) h))
 
 -- ---- a body
 
@@ -76,28 +76,28 @@ module _ (bytes : List ℕ) (j : ℕ) where
   module _ (e : firstMet (boxChecks bytes) ≡ 0) where
     pub by-low : j < 1 → firstMet (bodyChecks bytes j) ≡ 4
     unfolding bodyChecks firstMet
-    by-low h = none-append (boxChecks bytes) _ (box-none bytes e) ∙ rw (outside-low 1 (nodesIn bytes) j h)
+    by-low h = none-append (boxChecks bytes) _ (box-none bytes e) ∙ rw (outside-low 1 (nodeCountIn bytes) j h)
 
-    pub by-high : nodesIn bytes < j → firstMet (bodyChecks bytes j) ≡ 4
+    pub by-high : nodeCountIn bytes < j → firstMet (bodyChecks bytes j) ≡ 4
     unfolding bodyChecks firstMet
-    by-high h = none-append (boxChecks bytes) _ (box-none bytes e) ∙ rw (outside-high 1 (nodesIn bytes) j h)
+    by-high h = none-append (boxChecks bytes) _ (box-none bytes e) ∙ rw (outside-high 1 (nodeCountIn bytes) j h)
 
-    pub by-missing : 1 ≤ j → j ≤ nodesIn bytes → heldIn bytes ≤ placeIn (namesIn bytes) j → firstMet (bodyChecks bytes j) ≡ 12
+    pub by-missing : 1 ≤ j → j ≤ nodeCountIn bytes → heldCountIn bytes ≤ placeIn (namesIn bytes) j → firstMet (bodyChecks bytes j) ≡ 12
     unfolding bodyChecks firstMet
     by-missing h g m =
         none-append (boxChecks bytes) _ (box-none bytes e)
-        ∙ rw (outside-no 1 (nodesIn bytes) j h g, le-ltb (placeIn (namesIn bytes) j) (heldIn bytes) m)
+        ∙ rw (outside-no 1 (nodeCountIn bytes) j h g, le-ltb (placeIn (namesIn bytes) j) (heldCountIn bytes) m)
 
-    pub by-none : 1 ≤ j → j ≤ nodesIn bytes → placeIn (namesIn bytes) j < heldIn bytes → firstMet (bodyChecks bytes j) ≡ 0
+    pub by-none : 1 ≤ j → j ≤ nodeCountIn bytes → placeIn (namesIn bytes) j < heldCountIn bytes → firstMet (bodyChecks bytes j) ≡ 0
     unfolding bodyChecks firstMet
     by-none h g m =
         none-append (boxChecks bytes) _ (box-none bytes e)
-        ∙ rw (outside-no 1 (nodesIn bytes) j h g, lt-ltb (placeIn (namesIn bytes) j) (heldIn bytes) m)
+        ∙ rw (outside-no 1 (nodeCountIn bytes) j h g, lt-ltb (placeIn (namesIn bytes) j) (heldCountIn bytes) m)
 
   -- a body that is not refused
   pub record AcceptedBody : Type 0 where
     pub accepted-box : firstMet (boxChecks bytes) ≡ 0
-    pub place : placeIn (namesIn bytes) j < heldIn bytes
+    pub place : placeIn (namesIn bytes) j < heldCountIn bytes
 
   body-none : firstMet (bodyChecks bytes j) ≡ 0 → NoneMet (bodyChecks bytes j)
   unfolding bodyChecks boxChecks parameterChecks
@@ -110,13 +110,13 @@ module _ (bytes : List ℕ) (j : ℕ) where
       let l = none-right (boxChecks bytes) _ n in
       record {
         accepted-box = none-zero (boxChecks bytes) (none-left (boxChecks bytes) _ n);
-        place = ltb-true (placeIn (namesIn bytes) j) (heldIn bytes) (not-false _ (l .1 .0));
+        place = ltb-true (placeIn (namesIn bytes) j) (heldCountIn bytes) (not-false _ (l .1 .0));
       }
 
   pub body-empty : (firstMet (bodyChecks bytes j) ≡ 0 → ⊥) → bodyOf bytes j ≡ []
   unfolding bodyOf
   body-empty n = rw (ne-eqb (firstMet (bodyChecks bytes j)) 0 n)
 
-  pub body-part : firstMet (bodyChecks bytes j) ≡ 0 → take (lengthIn bytes) (drop (bodyStart bytes j) bytes) ≡ bodyOf bytes j
+  pub body-part : firstMet (bodyChecks bytes j) ≡ 0 → take (blockLengthIn bytes) (drop (bodyStart bytes j) bytes) ≡ bodyOf bytes j
   unfolding bodyOf
   body-part e = rw e

@@ -18,12 +18,13 @@ use Rattle.checks.specs.Parameters.{outside, parameterChecks}
 use Rattle.checks.specs.Claims.{InRange}
 use Rattle.checks.proofs.Laws.{inside, none-zero, range-of, parameters-in}
 use Rattle.lists.specs.Lists.{someOutside, rises, listChecks, placeIn}
-use Rattle.blocks.specs.Blocks.{blockOf, withBlock, InBuffer}
+use Rattle.blocks.specs.Blocks.{blockOf, withBlock}
+use Rattle.blocks.specs.Inner.{InBuffer}
 use Rattle.blocks.proofs.BlockLaws.{length-withBlock, blockOf-same, blockOf-other, in-buffer}
 use Rattle.blocks.proofs.PartLaws.{length-blockOf}
-use Rattle.boxes.specs.Box.{familyIn, kIn, lengthIn, heldIn, zerosIn, namesIn, bodiesIn, nodesIn, boxLength, boxChecks, bodyChecks, bodyPlace, bodyStart}
+use Rattle.boxes.specs.Box.{familyIn, kIn, blockLengthIn, heldCountIn, zerosIn, namesIn, bodiesIn, nodeCountIn, boxLength, boxChecks, bodyChecks, bodyPlace, bodyStart}
 use Rattle.boxes.specs.Bodies.{bodiesOf, boxOf, withBodies}
-use Rattle.boxes.specs.Places.{ListIn}
+use Rattle.boxes.specs.Inner.{ListIn}
 use Rattle.boxes.specs.Claims.{AcceptedBox}
 use Rattle.boxes.proofs.Answers.{parametersOf, box-none, length-names, by-list, accepted-body}
 
@@ -153,20 +154,20 @@ accepted-box bytes e =
     let n = box-none bytes e in
     let p = n .1 in
     let m = p .1 .1 .1 in
-    let s : length bytes ≡ boxLength (heldIn bytes) (lengthIn bytes) = eqb-true _ _ (not-false _ (m .1 .0)) in
+    let s : length bytes ≡ boxLength (heldCountIn bytes) (blockLengthIn bytes) = eqb-true _ _ (not-false _ (m .1 .0)) in
     record {
       size = s;
-      range = range-of (familyIn bytes) (kIn bytes) (lengthIn bytes) (p .0, (p .1 .0, (p .1 .1 .0, tt)));
+      range = range-of (familyIn bytes) (kIn bytes) (blockLengthIn bytes) (p .0, (p .1 .0, (p .1 .1 .0, tt)));
       zeros = not-false (zerosIn bytes) (m .0);
-      few-held = ltb-false (nodesIn bytes) (heldIn bytes) (m .1 .1 .0);
+      few-held = ltb-false (nodeCountIn bytes) (heldCountIn bytes) (m .1 .1 .0);
       nodes = m .1 .1 .1 .0;
       rising = not-false (rises (namesIn bytes)) (m .1 .1 .1 .1 .0);
       names-size = length-names bytes (omega arith);
-      bodies-size = length-drop (8 + heldIn bytes) bytes ∙ omega arith;
+      bodies-size = length-drop (8 + heldCountIn bytes) bytes ∙ omega arith;
     }
 
 -- the first 8 bytes and the names are there
-pub has-names : (bytes : List ℕ) → firstMet (boxChecks bytes) ≡ 0 → (8 ≤ length bytes) × (8 + heldIn bytes ≤ length bytes)
+pub has-names : (bytes : List ℕ) → firstMet (boxChecks bytes) ≡ 0 → (8 ≤ length bytes) × (8 + heldCountIn bytes ≤ length bytes)
 has-names bytes e = let b = accepted-box bytes e in (omega (arith, b .size), omega (arith, b .size))
 
 -- a body that is not refused has a place among those held, and ends by the end of the box
@@ -177,11 +178,11 @@ module _ (bytes : List ℕ) (j : ℕ) (e : firstMet (bodyChecks bytes j) ≡ 0) 
   pub body-named : placeIn (namesIn bytes) j < length (namesIn bytes)
   body-named = omega (arith, accepted-body bytes j e .place, body-box .names-size)
 
-  pub body-held : bodyPlace (namesIn bytes) j < heldIn bytes
+  pub body-held : bodyPlace (namesIn bytes) j < heldCountIn bytes
   body-held = omega (arith, body-named, body-box .names-size)
 
-  pub body-within : bodyStart bytes j + lengthIn bytes ≤ length bytes
-  body-within = omega (arith, body-box .size, body-fits (lengthIn bytes) (bodyPlace (namesIn bytes) j) (heldIn bytes) body-held)
+  pub body-within : bodyStart bytes j + blockLengthIn bytes ≤ length bytes
+  body-within = omega (arith, body-box .size, body-fits (blockLengthIn bytes) (bodyPlace (namesIn bytes) j) (heldCountIn bytes) body-held)
 
 -- ---- the box of a list of nodes
 
@@ -193,8 +194,8 @@ length-boxOf family k L list nodes h = omega (arith, length-append list (bodiesO
 pub record FieldsOf (family k L : ℕ) (list nodes : List ℕ) : Type 0 where
   pub family-is : familyIn (boxOf family k L list nodes) ≡ family
   pub k-is : kIn (boxOf family k L list nodes) ≡ k
-  pub length-is : lengthIn (boxOf family k L list nodes) ≡ L
-  pub held-is : heldIn (boxOf family k L list nodes) ≡ length list
+  pub length-is : blockLengthIn (boxOf family k L list nodes) ≡ L
+  pub held-is : heldCountIn (boxOf family k L list nodes) ≡ length list
   pub zeros-is : zerosIn (boxOf family k L list nodes) ≡ true
   pub names-is : namesIn (boxOf family k L list nodes) ≡ list
   pub bodies-is : bodiesIn (boxOf family k L list nodes) ≡ bodiesOf L nodes list
@@ -241,8 +242,8 @@ three-zeros x y z h =
     (eqb-true x 0 (and-left (eqb x 0) (eqb y 0 && eqb z 0) h), eqb-true y 0 (and-left (eqb y 0) (eqb z 0) t), eqb-true z 0 (and-right (eqb y 0) (eqb z 0) t))
 
 pub box-of-fields : (bytes nodes : List ℕ) → getD bytes 2 0 < 256 → firstMet (boxChecks bytes) ≡ 0
-    → bodiesOf (lengthIn bytes) nodes (namesIn bytes) ≡ bodiesIn bytes
-    → boxOf (familyIn bytes) (kIn bytes) (lengthIn bytes) (namesIn bytes) nodes ≡ bytes
+    → bodiesOf (blockLengthIn bytes) nodes (namesIn bytes) ≡ bodiesIn bytes
+    → boxOf (familyIn bytes) (kIn bytes) (blockLengthIn bytes) (namesIn bytes) nodes ≡ bytes
 unfolding boxOf
 box-of-fields bytes nodes byte e h =
     let a = accepted-box bytes e in
@@ -251,5 +252,5 @@ box-of-fields bytes nodes byte e h =
     let low : (x + y * 256) % 256 ≡ x = omega arith in
     let high : (x + y * 256) / 256 ≡ y = omega arith in
     let z = three-zeros (getD bytes 5 0) (getD bytes 6 0) (getD bytes 7 0) (a .zeros) in
-    let rest : namesIn bytes ++ bodiesIn bytes ≡ drop 8 bytes = rw (← drop-drop (heldIn bytes) 8 bytes) (take-append-drop (heldIn bytes) (drop 8 bytes)) in
+    let rest : namesIn bytes ++ bodiesIn bytes ≡ drop 8 bytes = rw (← drop-drop (heldCountIn bytes) 8 bytes) (take-append-drop (heldCountIn bytes) (drop 8 bytes)) in
     rw (h, a .names-size, rest, low, high) (front bytes 0 0 0 (omega (arith, a .size)) (z .0) (z .1) (z .2))

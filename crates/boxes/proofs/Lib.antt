@@ -1,5 +1,5 @@
 pub mod Answers
 pub mod Laws
-pub mod Runs
+pub mod Stretches
 pub mod Loops
 pub mod Proved

@@ -8,13 +8,13 @@ use native.Mathlib.Omega.{arith}
 use lib.ListN.{length, getD, drop, length-append, drop-of-length-le}
 use borrow.Rule.Slice.PartMut.{midOf, putMid}
 use Rattle.base.proofs.Fill.{filled, fill-done}
-use Rattle.blocks.specs.Blocks.{BlocksIn}
+use Rattle.blocks.specs.Inner.{BlocksIn}
 use Rattle.blocks.proofs.PartLaws.{fill-part, put-next, length-copied}
 use Rattle.boxes.specs.Box.{boxLength}
 use Rattle.boxes.specs.Bodies.{headerOf, bodiesOf, boxOf, withBodies}
-use Rattle.boxes.specs.Places.{ListIn, Run}
+use Rattle.boxes.specs.Inner.{ListIn, Stretch}
 use Rattle.boxes.proofs.Laws.{in-kept, length-bodiesOf}
-use Rattle.boxes.proofs.Runs.{run-in, run-at, run-put}
+use Rattle.boxes.proofs.Stretches.{stretch-in, stretch-at, stretch-put}
 
 -- ---- the body at place i, from 0, is block i + 1 of the bodies
 
@@ -38,22 +38,22 @@ pub read-none : {L : ℕ} {nodes list bodies : List ℕ} → ListIn L nodes list
 read-none {L} h e = record { inside = h; size = e; within = omega arith; kept = refl; rest = rw (zero-mul L) }
 
 module _ {L : ℕ} {start list bodies nodes : List ℕ} {i : ℕ} (w : Reading L start list bodies nodes i) where
-  module _ {r : ℕ} (run : Run list i r) where
+  module _ {r : ℕ} (stretch : Stretch list i r) where
     pub read-from : BlocksIn L r bodies (i + 1)
-    read-from = bodies-in L i r (length list) bodies (w .size) (run .within)
+    read-from = bodies-in L i r (length list) bodies (w .size) (stretch .within)
 
     pub read-to : BlocksIn L r nodes (getD list i 0)
-    read-to = run-in (in-kept nodes (w .kept) (w .inside)) run
+    read-to = stretch-in (in-kept nodes (w .kept) (w .inside)) stretch
 
     pub read-more : Reading L start list bodies (putMid ((getD list i 0 - 1) * L) (r * L) nodes (midOf ((i + 1 - 1) * L) (r * L) bodies)) (i + r)
     read-more =
-        let f : (i + r) * L ≤ length list * L = mul-le-mul-right L (run .within) in
+        let f : (i + r) * L ≤ length list * L = mul-le-mul-right L (stretch .within) in
         record {
           inside = w .inside;
           size = w .size;
-          within = run .within;
+          within = stretch .within;
           kept = length-copied read-from read-to ∙ w .kept;
-          rest = rw (back i) (w .rest ∙ run-put (in-kept nodes (w .kept) (w .inside)) run bodies (omega arith) r (omega arith));
+          rest = rw (back i) (w .rest ∙ stretch-put (in-kept nodes (w .kept) (w .inside)) stretch bodies (omega arith) r (omega arith));
         }
 
   pub read-done : length list ≤ i → nodes ≡ withBodies L start list bodies
@@ -72,25 +72,25 @@ pub write-none : {L : ℕ} {list nodes out : List ℕ} → ListIn L nodes list �
 write-none {L} h e = record { inside = h; size = e; within = omega arith; kept = refl; is = rw (zero-mul L) }
 
 module _ {L : ℕ} {list nodes start out : List ℕ} {i : ℕ} (w : Writing L list nodes start out i) where
-  module _ {r : ℕ} (run : Run list i r) where
+  module _ {r : ℕ} (stretch : Stretch list i r) where
     pub write-from : BlocksIn L r nodes (getD list i 0)
-    write-from = run-in (w .inside) run
+    write-from = stretch-in (w .inside) stretch
 
     pub write-to : BlocksIn L r out (i + 1)
-    write-to = bodies-in L i r (length list) out (w .kept ∙ w .size) (run .within)
+    write-to = bodies-in L i r (length list) out (w .kept ∙ w .size) (stretch .within)
 
     pub write-more : Writing L list nodes start (putMid ((i + 1 - 1) * L) (r * L) out (midOf ((getD list i 0 - 1) * L) (r * L) nodes)) (i + r)
     write-more =
         let b = bodiesOf L nodes list in
         let e = length-bodiesOf L nodes list (w .inside) in
-        let f : (i + r) * L ≤ length list * L = mul-le-mul-right L (run .within) in
+        let f : (i + r) * L ≤ length list * L = mul-le-mul-right L (stretch .within) in
         let s = add-mul i r L in
         record {
           inside = w .inside;
           size = w .size;
-          within = run .within;
+          within = stretch .within;
           kept = length-copied write-from write-to ∙ w .kept;
-          is = rw (back i, ← run-at (w .inside) run r (omega arith), w .is, s) (fill-part b start (i * L) (i * L) (r * L) (omega arith) (omega arith) (omega arith));
+          is = rw (back i, ← stretch-at (w .inside) stretch r (omega arith), w .is, s) (fill-part b start (i * L) (i * L) (r * L) (omega arith) (omega arith) (omega arith));
         }
 
   pub write-done : length list ≤ i → out ≡ bodiesOf L nodes list

@@ -15,7 +15,7 @@ use Rattle.blocks.proofs.PartLaws.{length-mid}
 use Rattle.checks.specs.Checks.{firstMet}
 use Rattle.checks.proofs.Laws.{none-zero, parameters-in}
 use Rattle.lists.specs.Lists.{rises, listChecks, placeIn}
-use Rattle.boxes.specs.Box.{familyIn, kIn, lengthIn, heldIn, namesIn, bodiesIn, nodesIn, boxChecks, bodyChecks, bodyPlace, bodyOf}
+use Rattle.boxes.specs.Box.{familyIn, kIn, blockLengthIn, heldCountIn, namesIn, bodiesIn, nodeCountIn, boxChecks, bodyChecks, bodyPlace, bodyOf}
 use Rattle.boxes.specs.Bodies.{boxOf, withBodies}
 use Rattle.boxes.specs.Claims.{AcceptedBox, BoxClaim, BodyClaims, BodyClaim, BoxOfBodyClaim}
 use Rattle.boxes.proofs.Answers.{by-list, by-none, body-part}
@@ -29,7 +29,7 @@ box-claim bytes = (accepted-box bytes, back)
     back : AcceptedBox bytes → firstMet (boxChecks bytes) ≡ 0
     back a =
         by-list bytes (omega (arith, a .size)) (parameters-in _ _ _ (a .range)) (a .zeros) (a .size) (a .few-held)
-        ∙ none-zero (listChecks (nodesIn bytes) (namesIn bytes)) (a .nodes, (ap not (a .rising), tt))
+        ∙ none-zero (listChecks (nodeCountIn bytes) (namesIn bytes)) (a .nodes, (ap not (a .rising), tt))
 
 -- ---- the body of a node
 
@@ -41,7 +41,7 @@ place-of (x ∷ list) zero r l = rw (eq-eqb x x refl)
 place-of (x ∷ list) (suc i) r l =
     rw (ne-eqb x (getD list i 0) (λ e. omega (arith, rises-above x list i r (omega arith)))) (ap suc (place-of list i (rises-rest x list r) (omega arith)))
 
-module _ (bytes : List ℕ) (e : firstMet (boxChecks bytes) ≡ 0) (i : ℕ) (l : i < heldIn bytes) where
+module _ (bytes : List ℕ) (e : firstMet (boxChecks bytes) ≡ 0) (i : ℕ) (l : i < heldCountIn bytes) where
   box : AcceptedBox bytes
   box = accepted-box bytes e
 
@@ -59,30 +59,30 @@ module _ (bytes : List ℕ) (e : firstMet (boxChecks bytes) ≡ 0) (i : ℕ) (l 
   place = held
 
   is-node : IsNode (familyOf (familyIn bytes)) (kIn bytes) node
-  is-node = let n = node-inside (nodesIn bytes) (namesIn bytes) i (box .nodes) named in record { first = n .0; last = n .1 }
+  is-node = let n = node-inside (nodeCountIn bytes) (namesIn bytes) i (box .nodes) named in record { first = n .0; last = n .1 }
 
   given : firstMet (bodyChecks bytes node) ≡ 0
   given = by-none bytes node e (is-node .first) (is-node .last) (omega (arith, held))
 
-  part : bodyOf bytes node ≡ midOf (i * lengthIn bytes) (lengthIn bytes) (bodiesIn bytes)
-  part = sym (body-part bytes node given) ∙ rw (place, drop-drop (i * lengthIn bytes) (8 + heldIn bytes) bytes)
+  part : bodyOf bytes node ≡ midOf (i * blockLengthIn bytes) (blockLengthIn bytes) (bodiesIn bytes)
+  part = sym (body-part bytes node given) ∙ rw (place, drop-drop (i * blockLengthIn bytes) (8 + heldCountIn bytes) bytes)
 
-  fits : i * lengthIn bytes + lengthIn bytes ≤ length (bodiesIn bytes)
-  fits = omega (arith, body-fits (lengthIn bytes) i (heldIn bytes) l, box .bodies-size)
+  fits : i * blockLengthIn bytes + blockLengthIn bytes ≤ length (bodiesIn bytes)
+  fits = omega (arith, body-fits (blockLengthIn bytes) i (heldCountIn bytes) l, box .bodies-size)
 
-  read : (nodes : List ℕ) → length nodes ≡ nodesIn bytes * lengthIn bytes
-      → blockOf (lengthIn bytes) (withBodies (lengthIn bytes) nodes (namesIn bytes) (bodiesIn bytes)) node ≡ bodyOf bytes node
+  read : (nodes : List ℕ) → length nodes ≡ nodeCountIn bytes * blockLengthIn bytes
+      → blockOf (blockLengthIn bytes) (withBodies (blockLengthIn bytes) nodes (namesIn bytes) (bodiesIn bytes)) node ≡ bodyOf bytes node
   read nodes size =
-      let L = lengthIn bytes in
+      let L = blockLengthIn bytes in
       let after = withBodies L nodes (namesIn bytes) (bodiesIn bytes) in
-      let places = list-in L (nodesIn bytes) nodes (namesIn bytes) size (box .nodes) in
+      let places = list-in L (nodeCountIn bytes) nodes (namesIn bytes) size (box .nodes) in
       let all : length (bodiesIn bytes) ≡ length (namesIn bytes) * L = rw (box .names-size) (box .bodies-size) in
       sym (body-at L after (namesIn bytes) i (in-kept after (length-withBodies L nodes (namesIn bytes) (bodiesIn bytes) places all) places) named)
       ∙ ap (midOf (i * L) L) (bodies-there L nodes (namesIn bytes) (bodiesIn bytes) (box .rising) places all)
       ∙ sym part
 
   pub body-claims : BodyClaims bytes i
-  body-claims = record { node = is-node; given = given; size = ap length part ∙ length-mid (bodiesIn bytes) (i * lengthIn bytes) (lengthIn bytes) fits; read = read }
+  body-claims = record { node = is-node; given = given; size = ap length part ∙ length-mid (bodiesIn bytes) (i * blockLengthIn bytes) (blockLengthIn bytes) fits; read = read }
 
 pub body-claim : BodyClaim
 body-claim bytes e i l = body-claims bytes e i l

@@ -16,11 +16,11 @@ familyIn bytes = getD bytes 0 0
 abbrev pub kIn : List ℕ → ℕ
 kIn bytes = getD bytes 1 0
 
-abbrev pub lengthIn : List ℕ → ℕ
-lengthIn bytes = getD bytes 2 0 + getD bytes 3 0 * 256
+abbrev pub blockLengthIn : List ℕ → ℕ
+blockLengthIn bytes = getD bytes 2 0 + getD bytes 3 0 * 256
 
-abbrev pub heldIn : List ℕ → ℕ
-heldIn bytes = getD bytes 4 0
+abbrev pub heldCountIn : List ℕ → ℕ
+heldCountIn bytes = getD bytes 4 0
 
 -- bytes 5 to 7 are zero
 abbrev pub zerosIn : List ℕ → Bool
@@ -28,36 +28,36 @@ zerosIn bytes = eqb (getD bytes 5 0) 0 && (eqb (getD bytes 6 0) 0 && eqb (getD b
 
 -- then E bytes, the node numbers
 abbrev pub namesIn : List ℕ → List ℕ
-namesIn bytes = take (heldIn bytes) (drop 8 bytes)
+namesIn bytes = take (heldCountIn bytes) (drop 8 bytes)
 
 -- then E bodies of L bytes in that order
 abbrev pub bodiesIn : List ℕ → List ℕ
-bodiesIn bytes = drop (8 + heldIn bytes) bytes
+bodiesIn bytes = drop (8 + heldCountIn bytes) bytes
 
 -- the length is exactly 8 + E + E × L
 abbrev pub boxLength : ℕ → ℕ → ℕ
 boxLength E L = 8 + E + E * L
 
 -- n of the box's family and k
-abbrev pub nodesIn : List ℕ → ℕ
-nodesIn bytes = nodeCount (familyOf (familyIn bytes)) (kIn bytes)
+abbrev pub nodeCountIn : List ℕ → ℕ
+nodeCountIn bytes = nodeCount (familyOf (familyIn bytes)) (kIn bytes)
 
 -- under 8 bytes 7, then 1, 2, 3, 8, full length 7, 9, 4, 5
 unfoldable pub boxChecks : List ℕ → List Check
 boxChecks bytes =
     (ltb (length bytes) 8 gives 7)
-    ∷ (parameterChecks (familyIn bytes) (kIn bytes) (lengthIn bytes)
+    ∷ (parameterChecks (familyIn bytes) (kIn bytes) (blockLengthIn bytes)
     ++ ((not (zerosIn bytes) gives 8)
-    ∷ (not (eqb (length bytes) (boxLength (heldIn bytes) (lengthIn bytes))) gives 7)
-    ∷ (ltb (nodesIn bytes) (heldIn bytes) gives 9)
-    ∷ listChecks (nodesIn bytes) (namesIn bytes)))
+    ∷ (not (eqb (length bytes) (boxLength (heldCountIn bytes) (blockLengthIn bytes))) gives 7)
+    ∷ (ltb (nodeCountIn bytes) (heldCountIn bytes) gives 9)
+    ∷ listChecks (nodeCountIn bytes) (namesIn bytes)))
 
 -- for a body: the box's checks, then 4 and 12
 unfoldable pub bodyChecks : List ℕ → ℕ → List Check
 bodyChecks bytes j =
     boxChecks bytes
-    ++ ((outside 1 (nodesIn bytes) j gives 4)
-    ∷ (not (ltb (placeIn (namesIn bytes) j) (heldIn bytes)) gives 12)
+    ++ ((outside 1 (nodeCountIn bytes) j gives 4)
+    ∷ (not (ltb (placeIn (namesIn bytes) j) (heldCountIn bytes)) gives 12)
     ∷ [])
 
 -- the place of node j's body among the bodies, from 0: that of its number among the node numbers
@@ -66,8 +66,8 @@ bodyPlace names j = placeIn names j
 
 -- where the body of node j begins: after the node numbers, at its place among the bodies
 abbrev pub bodyStart : List ℕ → ℕ → ℕ
-bodyStart bytes j = 8 + heldIn bytes + bodyPlace (namesIn bytes) j * lengthIn bytes
+bodyStart bytes j = 8 + heldCountIn bytes + bodyPlace (namesIn bytes) j * blockLengthIn bytes
 
 -- the body of node j: the L bytes from there; empty where it is refused
 unfoldable pub bodyOf : List ℕ → ℕ → List ℕ
-bodyOf bytes j = cond (eqb (firstMet (bodyChecks bytes j)) 0) (take (lengthIn bytes) (drop (bodyStart bytes j) bytes)) []
+bodyOf bytes j = cond (eqb (firstMet (bodyChecks bytes j)) 0) (take (blockLengthIn bytes) (drop (bodyStart bytes j) bytes)) []

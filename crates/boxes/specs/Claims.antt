@@ -10,7 +10,7 @@ use Rattle.checks.specs.Checks.{firstMet}
 use Rattle.checks.specs.Claims.{InRange}
 use Rattle.blocks.specs.Blocks.{blockOf}
 use Rattle.lists.specs.Lists.{someOutside, rises}
-use Rattle.boxes.specs.Box.{familyIn, kIn, lengthIn, heldIn, zerosIn, namesIn, bodiesIn, nodesIn, boxLength, boxChecks, bodyChecks, bodyOf}
+use Rattle.boxes.specs.Box.{familyIn, kIn, blockLengthIn, heldCountIn, zerosIn, namesIn, bodiesIn, nodeCountIn, boxLength, boxChecks, bodyChecks, bodyOf}
 use Rattle.boxes.specs.Bodies.{boxOf, withBodies}
 
 -- ---- a box
@@ -18,17 +18,17 @@ use Rattle.boxes.specs.Bodies.{boxOf, withBodies}
 -- a box that is as document 01 says
 pub record AcceptedBox (bytes : List ℕ) : Type 0 where
   -- family, k and L are in range, and bytes 5 to 7 are zero
-  pub range : InRange (familyIn bytes) (kIn bytes) (lengthIn bytes)
+  pub range : InRange (familyIn bytes) (kIn bytes) (blockLengthIn bytes)
   pub zeros : zerosIn bytes ≡ true
   -- the length is 8 + E + E × L, and E is at most n
-  pub size : length bytes ≡ boxLength (heldIn bytes) (lengthIn bytes)
-  pub few-held : heldIn bytes ≤ nodesIn bytes
+  pub size : length bytes ≡ boxLength (heldCountIn bytes) (blockLengthIn bytes)
+  pub few-held : heldCountIn bytes ≤ nodeCountIn bytes
   -- the node numbers are 1 to n, and strictly rise
-  pub nodes : someOutside (nodesIn bytes) (namesIn bytes) ≡ false
+  pub nodes : someOutside (nodeCountIn bytes) (namesIn bytes) ≡ false
   pub rising : rises (namesIn bytes) ≡ true
   -- the numbers of nodes and of bodies are both E
-  pub names-size : length (namesIn bytes) ≡ heldIn bytes
-  pub bodies-size : length (bodiesIn bytes) ≡ heldIn bytes * lengthIn bytes
+  pub names-size : length (namesIn bytes) ≡ heldCountIn bytes
+  pub bodies-size : length (bodiesIn bytes) ≡ heldCountIn bytes * blockLengthIn bytes
 
 -- a box is accepted exactly where it is so
 abbrev pub BoxClaim : Type 0
@@ -37,7 +37,7 @@ BoxClaim = (bytes : List ℕ) → (firstMet (boxChecks bytes) ≡ 0) ↔ Accepte
 -- node j is named: it stands at a place among the node numbers
 pub record Named (bytes : List ℕ) (j : ℕ) : Type 0 where
   pub place : ℕ
-  pub within : place < heldIn bytes
+  pub within : place < heldCountIn bytes
   pub there : getD (namesIn bytes) place 0 ≡ j
 
 -- ---- the body of a node
@@ -48,15 +48,15 @@ pub record BodyClaims (bytes : List ℕ) (i : ℕ) : Type 0 where
   pub node : IsNode (familyOf (familyIn bytes)) (kIn bytes) (getD (namesIn bytes) i 0)
   -- its body is not refused, and is L bytes
   pub given : firstMet (bodyChecks bytes (getD (namesIn bytes) i 0)) ≡ 0
-  pub size : length (bodyOf bytes (getD (namesIn bytes) i 0)) ≡ lengthIn bytes
+  pub size : length (bodyOf bytes (getD (namesIn bytes) i 0)) ≡ blockLengthIn bytes
   -- it is what a read puts in the node's place
-  pub read : (nodes : List ℕ) → length nodes ≡ nodesIn bytes * lengthIn bytes
-      → blockOf (lengthIn bytes) (withBodies (lengthIn bytes) nodes (namesIn bytes) (bodiesIn bytes)) (getD (namesIn bytes) i 0)
+  pub read : (nodes : List ℕ) → length nodes ≡ nodeCountIn bytes * blockLengthIn bytes
+      → blockOf (blockLengthIn bytes) (withBodies (blockLengthIn bytes) nodes (namesIn bytes) (bodiesIn bytes)) (getD (namesIn bytes) i 0)
       ≡ bodyOf bytes (getD (namesIn bytes) i 0)
 
 -- for every accepted box and each of its named nodes
 abbrev pub BodyClaim : Type 0
-BodyClaim = (bytes : List ℕ) → firstMet (boxChecks bytes) ≡ 0 → (i : ℕ) → i < heldIn bytes → BodyClaims bytes i
+BodyClaim = (bytes : List ℕ) → firstMet (boxChecks bytes) ≡ 0 → (i : ℕ) → i < heldCountIn bytes → BodyClaims bytes i
 
 -- in the box of a list of nodes, where it is accepted, the body of each is that node's block
 abbrev pub BoxOfBodyClaim : Type 0

@@ -1,4 +1,4 @@
 pub mod Box
 pub mod Bodies
 pub mod Claims
-pub mod Places
+pub mod Inner

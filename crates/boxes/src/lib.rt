@@ -8,9 +8,9 @@ ghost use Rattle.families.specs.Families.{KInRange, familyOf};
 ghost use Rattle.checks.specs.Checks.{firstMet};
 ghost use Rattle.checks.specs.Parameters.{parameterChecks};
 ghost use Rattle.lists.specs.Lists.{placeIn};
-ghost use Rattle.boxes.specs.Box.{familyIn, kIn, lengthIn, heldIn, zerosIn, namesIn, bodiesIn, nodesIn, boxLength, boxChecks, bodyChecks, bodyPlace, bodyStart, bodyOf};
+ghost use Rattle.boxes.specs.Box.{familyIn, kIn, blockLengthIn, heldCountIn, zerosIn, namesIn, bodiesIn, nodeCountIn, boxLength, boxChecks, bodyChecks, bodyPlace, bodyStart, bodyOf};
 ghost use Rattle.boxes.specs.Bodies.{headerOf, bodiesOf, boxOf, withBodies};
-ghost use Rattle.boxes.specs.Places.{ListIn, Run};
+ghost use Rattle.boxes.specs.Inner.{ListIn, Stretch};
 
 // The number of a box's family.
 pub fn family(bytes: &[u8]) -> usize
@@ -31,34 +31,34 @@ pub fn block_count(bytes: &[u8]) -> usize
 // L of a box.
 pub fn block_length(bytes: &[u8]) -> usize
     requires { ⌜ 8 ≤ length (now bytes) ⌝ }
-    ensures { λ r. ⌜ r ≡ lengthIn (now (bytes .entry)) ⌝ }
+    ensures { λ r. ⌜ r ≡ blockLengthIn (now (bytes .entry)) ⌝ }
 {
     wide(bytes[2]) + wide(bytes[3]) * 256
 }
 
 // E of a box, the number of nodes held.
-pub fn held(bytes: &[u8]) -> usize
+pub fn held_count(bytes: &[u8]) -> usize
     requires { ⌜ 8 ≤ length (now bytes) ⌝ }
-    ensures { λ r. ⌜ r ≡ heldIn (now (bytes .entry)) ⌝ }
+    ensures { λ r. ⌜ r ≡ heldCountIn (now (bytes .entry)) ⌝ }
 {
     wide(bytes[4])
 }
 
 // The node numbers of a box.
 pub fn names(bytes: &[u8]) -> &[u8]
-    requires { ⌜ (8 ≤ length (now bytes)) × (8 + heldIn (now bytes) ≤ length (now bytes)) ⌝ }
+    requires { ⌜ (8 ≤ length (now bytes)) × (8 + heldCountIn (now bytes) ≤ length (now bytes)) ⌝ }
     ensures { λ r. ⌜ now r ≡ namesIn (now (bytes .entry)) ⌝ }
 {
-    let count = held(bytes);
+    let count = held_count(bytes);
     &bytes[8..8 + count]
 }
 
 // The bodies of a box, one after the other.
 pub fn bodies(bytes: &[u8]) -> &[u8]
-    requires { ⌜ (8 ≤ length (now bytes)) × (8 + heldIn (now bytes) ≤ length (now bytes)) ⌝ }
+    requires { ⌜ (8 ≤ length (now bytes)) × (8 + heldCountIn (now bytes) ≤ length (now bytes)) ⌝ }
     ensures { λ r. ⌜ now r ≡ bodiesIn (now (bytes .entry)) ⌝ }
 {
-    let count = held(bytes);
+    let count = held_count(bytes);
     &bytes[8 + count..]
 }
 
@@ -66,7 +66,7 @@ pub fn bodies(bytes: &[u8]) -> &[u8]
 pub fn node_count(bytes: &[u8]) -> usize
     requires { ⌜ 8 ≤ length (now bytes) ⌝ }
     requires { ⌜ KInRange (familyOf (familyIn (now bytes))) (kIn (now bytes)) ⌝ }
-    ensures { λ r. ⌜ r ≡ nodesIn (now (bytes .entry)) ⌝ }
+    ensures { λ r. ⌜ r ≡ nodeCountIn (now (bytes .entry)) ⌝ }
 {
     let code = families::family_of(family(bytes));
     families::node_count(code, block_count(bytes))
@@ -89,13 +89,13 @@ fn zeros(bytes: &[u8]) -> bool
 // The first check that is met, or 0, of a box of 8 bytes or more whose family, k and L are in range.
 fn rest_refusal(bytes: &[u8]) -> u8
     requires { ⌜ 8 ≤ length (now bytes) ⌝ }
-    requires { ⌜ firstMet (parameterChecks (familyIn (now bytes)) (kIn (now bytes)) (lengthIn (now bytes))) ≡ 0 ⌝ }
+    requires { ⌜ firstMet (parameterChecks (familyIn (now bytes)) (kIn (now bytes)) (blockLengthIn (now bytes))) ≡ 0 ⌝ }
     ensures { λ r. ⌜ r ≡ firstMet (boxChecks (now (bytes .entry))) ⌝ }
 {
     if !zeros(bytes) {
         return 8;
     }
-    let count = held(bytes);
+    let count = held_count(bytes);
     let len = block_length(bytes);
     // the numbers and bodies are looked at only once the length is as E says
     if bytes.len() != 8 + count + count * len {
@@ -136,7 +136,7 @@ pub fn body_refusal(bytes: &[u8], j: usize) -> u8
     if node_count(bytes) < j {
         return 4;
     }
-    if held(bytes) <= lists::place_in(names(bytes), j) {
+    if held_count(bytes) <= lists::place_in(names(bytes), j) {
         return 12;
     }
     0
@@ -156,7 +156,7 @@ pub fn body_start(bytes: &[u8], j: usize) -> usize
     ensures { λ r. ⌜ r ≡ bodyStart (now (bytes .entry)) j ⌝ }
 {
     let len = block_length(bytes);
-    8 + held(bytes) + body_place(names(bytes), j) * len
+    8 + held_count(bytes) + body_place(names(bytes), j) * len
 }
 
 // The body of node j, as that part of the box; empty where it is refused, by the number that `body_refusal` gives.
@@ -173,22 +173,22 @@ pub fn body(bytes: &[u8], j: usize) -> &[u8]
 
 // A count of numbers of a list, from place i on, that follow each other without a gap: one at least. It is the most there is, but
 // no caller needs that.
-fn run_length(list: &[u8], i: usize) -> usize
+fn stretch_length(list: &[u8], i: usize) -> usize
     requires { ⌜ i < length (now list) ⌝ }
-    ensures { λ r. ⌜ Run (now (list .entry)) i r ⌝ }
+    ensures { λ r. ⌜ Stretch (now (list .entry)) i r ⌝ }
 {
-    let mut run: usize = 1;
-    while i + run < list.len() {
-        if wide(list[i + run]) != wide(list[i]) + run {
-            return run;
+    let mut count: usize = 1;
+    while i + count < list.len() {
+        if wide(list[i + count]) != wide(list[i]) + count {
+            return count;
         }
-        run += 1;
+        count += 1;
     }
-    run
+    count
 }
 
 // The bodies of a list of nodes become those nodes' blocks; the other places keep their bytes. Nodes whose numbers follow each
-// other lie side by side in a box and in a nodes buffer: each run of them is one copy.
+// other lie side by side in a box and in a nodes buffer: each stretch of them is one copy.
 pub fn read_bodies(len: usize, nodes: &mut [u8], list: &[u8], bodies: &[u8])
     requires { ⌜ ListIn len (now nodes) (now list) ⌝ }
     requires { ⌜ length (now bodies) ≡ length (now list) * len ⌝ }
@@ -196,9 +196,9 @@ pub fn read_bodies(len: usize, nodes: &mut [u8], list: &[u8], bodies: &[u8])
 {
     let mut i: usize = 0;
     while i < list.len() {
-        let run = run_length(list, i);
-        blocks::copy_blocks(len, run, bodies, i + 1, nodes, wide(list[i]));
-        i += run;
+        let stretch = stretch_length(list, i);
+        blocks::copy_blocks(len, stretch, bodies, i + 1, nodes, wide(list[i]));
+        i += stretch;
     }
 }
 
@@ -218,7 +218,7 @@ fn write_header(family: usize, k: usize, len: usize, count: usize, out: &mut [u8
     out[7] = 0;
 }
 
-// The bodies of a list of nodes, in that order, fill `out`, a run of them at a time.
+// The bodies of a list of nodes, in that order, fill `out`, a stretch of them at a time.
 fn write_bodies(len: usize, list: &[u8], nodes: &[u8], out: &mut [u8])
     requires { ⌜ ListIn len (now nodes) (now list) ⌝ }
     requires { ⌜ length (now out) ≡ length (now list) * len ⌝ }
@@ -227,9 +227,9 @@ fn write_bodies(len: usize, list: &[u8], nodes: &[u8], out: &mut [u8])
     let count = list.len();
     let mut i: usize = 0;
     while i < count {
-        let run = run_length(list, i);
-        blocks::copy_blocks(len, run, nodes, wide(list[i]), out, i + 1);
-        i += run;
+        let stretch = stretch_length(list, i);
+        blocks::copy_blocks(len, stretch, nodes, wide(list[i]), out, i + 1);
+        i += stretch;
     }
 }
 

@@ -15,7 +15,7 @@ use lib.Seq.{getD-take, getD-drop, ext-getD}
 use Rattle.base.proofs.Xor.{xor-middle, xor-third}
 use Rattle.blocks.specs.Blocks.{xorBytes}
 use Rattle.blocks.proofs.XorBytes.{length-xorBytes, getD-xorBytes, xorBytes-self}
-use Rattle.encoding.specs.Matrix.{dataBlock, isIn, nodeBlock}
+use Rattle.encoding.specs.Matrix.{dataBlock, hasBlock, nodeBlock}
 
 -- ---- the XOR of those of k numbers that pass a test
 
@@ -39,27 +39,27 @@ digit-xor (suc zero) (suc (suc y)) hx hy v = absurd (omega arith)
 digit-xor (suc (suc x)) y hx hy v = absurd (omega arith)
 
 -- bit i of a XOR is the XOR of the bits i
-pub xorOver-xor : (k a b : ℕ) (f : ℕ → ℕ) → xorOver k (isIn (bitXor a b)) f ≡ bitXor (xorOver k (isIn a) f) (xorOver k (isIn b) f)
+pub xorOver-xor : (k a b : ℕ) (f : ℕ → ℕ) → xorOver k (hasBlock (bitXor a b)) f ≡ bitXor (xorOver k (hasBlock a) f) (xorOver k (hasBlock b) f)
 unfolding xorOver
 xorOver-xor zero a b f = refl
 xorOver-xor (suc k) a b f =
     rw (xorOver-xor k a b f, xor-shr a b k, xor-mod (a / 2 ^ k) (b / 2 ^ k) 1, digit-xor (a / 2 ^ k % 2) (b / 2 ^ k % 2) (omega arith) (omega arith) (f k))
-    (xor-middle (xorOver k (isIn a) f) (xorOver k (isIn b) f) (cond (isIn a k) (f k) 0) (cond (isIn b k) (f k) 0))
+    (xor-middle (xorOver k (hasBlock a) f) (xorOver k (hasBlock b) f) (cond (hasBlock a k) (f k) 0) (cond (hasBlock b k) (f k) 0))
 
-unit-below : (i j : ℕ) → i < j → isIn (2 ^ i) j ≡ false
+unit-below : (i j : ℕ) → i < j → hasBlock (2 ^ i) j ≡ false
 unit-below i j h = rw (div-eq-of-lt (pow-lt h))
 
-unit-above : (i j : ℕ) → j < i → isIn (2 ^ i) j ≡ false
+unit-above : (i j : ℕ) → j < i → hasBlock (2 ^ i) j ≡ false
 unit-above i j h =
     let e : i ≡ suc (i - suc j) + j = omega arith in
     let p : 2 ^ i / 2 ^ j ≡ 2 ^ (i - suc j) * 2 = ap (λ (n : ℕ). 2 ^ n / 2 ^ j) e ∙ rw (pow-add 2 (suc (i - suc j)) j, shl-shr) (pow-suc 2 (i - suc j)) in
     rw (p, mul-mod-left)
 
-pub xorOver-unit : (k i : ℕ) (f : ℕ → ℕ) → i < k → xorOver k (isIn (2 ^ i)) f ≡ f i
+pub xorOver-unit : (k i : ℕ) (f : ℕ → ℕ) → i < k → xorOver k (hasBlock (2 ^ i)) f ≡ f i
 unfolding xorOver
 xorOver-unit zero i f h = absurd (not-suc-le-zero h)
 xorOver-unit (suc k) i f h =
-    ⊎-elim (λ (e : i ≡ k). rw (e, xorOver-none k (isIn (2 ^ k)) f (unit-above k), div-self (pow-pos k)))
+    ⊎-elim (λ (e : i ≡ k). rw (e, xorOver-none k (hasBlock (2 ^ k)) f (unit-above k), div-self (pow-pos k)))
     (λ (l : i < k). rw (xorOver-unit k i f l, unit-below i k l) (xor-zero-r (f i))) (eq-or-lt-of-le (le-of-suc-le-suc h))
 
 -- ---- the bytes of blocks
@@ -101,12 +101,12 @@ module _ (k L : ℕ) (object : List ℕ) (h : length object ≡ k * L) where
       }
 
   -- of the first i blocks alone
-  first-bytes : (column i : ℕ) → i ≤ k → Bytes L (nodeBlock i L object column) (λ p. xorOver i (isIn column) (λ j. getD object (j * L + p) 0))
+  first-bytes : (column i : ℕ) → i ≤ k → Bytes L (nodeBlock i L object column) (λ p. xorOver i (hasBlock column) (λ j. getD object (j * L + p) 0))
   unfolding nodeBlock xorOver
   first-bytes column zero l = record { size = length-replicate L 0; at = λ p b. getD-replicate L p 0 0 b }
-  first-bytes column (suc i) l = cond-bytes (isIn column i) (first-bytes column i (omega arith)) (data-bytes i l)
+  first-bytes column (suc i) l = cond-bytes (hasBlock column i) (first-bytes column i (omega arith)) (data-bytes i l)
 
-  node-bytes : (column : ℕ) → Bytes L (nodeBlock k L object column) (λ p. xorOver k (isIn column) (λ i. getD object (i * L + p) 0))
+  node-bytes : (column : ℕ) → Bytes L (nodeBlock k L object column) (λ p. xorOver k (hasBlock column) (λ i. getD object (i * L + p) 0))
   node-bytes column = first-bytes column k (le-refl k)
 
   pub length-dataBlock : (i : ℕ) → i < k → length (dataBlock L object i) ≡ L
@@ -115,7 +115,7 @@ module _ (k L : ℕ) (object : List ℕ) (h : length object ≡ k * L) where
   pub length-nodeBlock : (column : ℕ) → length (nodeBlock k L object column) ≡ L
   length-nodeBlock column = node-bytes column .size
 
-  pub node-byte : (column p : ℕ) → p < L → getD (nodeBlock k L object column) p 0 ≡ xorOver k (isIn column) (λ i. getD object (i * L + p) 0)
+  pub node-byte : (column p : ℕ) → p < L → getD (nodeBlock k L object column) p 0 ≡ xorOver k (hasBlock column) (λ i. getD object (i * L + p) 0)
   node-byte column = node-bytes column .at
 
   pub node-block-xor : (a b : ℕ) → nodeBlock k L object (bitXor a b) ≡ xorBytes (nodeBlock k L object a) (nodeBlock k L object b)

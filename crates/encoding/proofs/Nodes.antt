@@ -17,11 +17,12 @@ use Rattle.families.specs.declared.Family.{Family}
 use Rattle.families.specs.Families.{IsNode, columnOf, nodeOf, nodeCount, areRelated}
 use Rattle.families.proofs.Laws.{column, short, Before, sources, node-of, lowBit}
 use Rattle.base.proofs.LowestBit.{Lowest, lowest}
-use Rattle.blocks.specs.Blocks.{xorBytes, blockOf, withBlock, InBuffer}
+use Rattle.blocks.specs.Blocks.{xorBytes, blockOf, withBlock}
+use Rattle.blocks.specs.Inner.{InBuffer}
 use Rattle.blocks.proofs.BlockLaws.{block-fits, in-buffer, take-through, blockOf-take}
 use Rattle.blocks.proofs.PartLaws.{mid-front}
 use Rattle.encoding.specs.Matrix.{dataBlock, nodeBlock, nodeBlocks, nodesBuffer}
-use Rattle.encoding.specs.Progress.{BeforeNode}
+use Rattle.encoding.specs.Inner.{BeforeNode}
 use Rattle.encoding.proofs.Linear.{length-nodeBlock, node-block-unit, node-block-xor, node-block-related, node-block-related-zero}
 
 module _ (f : Family) (k L : ℕ) (object : List ℕ) (h : length object ≡ k * L) where

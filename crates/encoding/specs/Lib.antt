@@ -1,4 +1,4 @@
 pub mod Matrix
-pub mod Progress
+pub mod Inner
 pub mod Encode
 pub mod Claims

@@ -14,14 +14,14 @@ unfoldable pub dataBlock : ℕ → List ℕ → ℕ → List ℕ
 dataBlock L object i = take L (drop (i * L) object)
 
 -- data block i + 1 is in the node with this column: bit i, worth 2^i, is set
-abbrev pub isIn : ℕ → ℕ → Bool
-isIn column i = eqb (column / 2 ^ i % 2) 1
+abbrev pub hasBlock : ℕ → ℕ → Bool
+hasBlock column i = eqb (column / 2 ^ i % 2) 1
 
 -- the block of a node: the bytewise XOR of those of an object's first k data blocks that are in its column
 unfoldable pub nodeBlock : ℕ → ℕ → List ℕ → ℕ → List ℕ
 nodeBlock zero L object column = replicate L 0
 nodeBlock (suc k) L object column =
-    cond (isIn column k) (xorBytes (nodeBlock k L object column) (dataBlock L object k)) (nodeBlock k L object column)
+    cond (hasBlock column k) (xorBytes (nodeBlock k L object column) (dataBlock L object k)) (nodeBlock k L object column)
 
 -- the blocks of nodes 1 to j, one after the other
 unfoldable pub nodeBlocks : Family → ℕ → ℕ → List ℕ → ℕ → List ℕ

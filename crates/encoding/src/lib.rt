@@ -7,7 +7,7 @@ ghost use Rattle.families.specs.Families.{KInRange, nodeCount, columnOf};
 ghost use Rattle.blocks.specs.Blocks.{withBlock};
 ghost use Rattle.checks.specs.Checks.{firstMet};
 ghost use Rattle.encoding.specs.Matrix.{nodeBlock, nodesBuffer};
-ghost use Rattle.encoding.specs.Progress.{BeforeNode};
+ghost use Rattle.encoding.specs.Inner.{BeforeNode};
 ghost use Rattle.encoding.specs.Encode.{encodeChecks, encodeAnswer, encoded};
 
 // The number of the first check that is met, or 0.

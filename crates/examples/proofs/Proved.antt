@@ -9,7 +9,8 @@ use borrow.Author.Tests.{le-ltb}
 use lib.Dec.{ltb}
 use lib.ListN.{length, getD, drop}
 use lib.Seq.{ext-getD}
-use Rattle.families.specs.Families.{familyOf, nodeCount, columnOf, smallerAt, largerAt, areRelated, firstFrom, listFrom}
+use Rattle.base.specs.Ranges.{firstFrom, someFrom, thoseFrom, countFrom, listFrom}
+use Rattle.families.specs.Families.{familyOf, nodeCount, columnOf, smallerAt, largerAt, areRelated}
 use Rattle.families.proofs.TableLaws.{length-listFrom, getD-listFrom}
 use Rattle.blocks.specs.Blocks.{xorBytes, blockOf, withBlock}
 use Rattle.checks.specs.Checks.{firstMet}
@@ -17,16 +18,16 @@ use Rattle.checks.specs.Parameters.{mostL, parameterChecks}
 use Rattle.checks.proofs.Laws.{outside-no}
 use Rattle.encoding.specs.Matrix.{dataBlock, nodeBlock, nodeBlocks, nodesBuffer}
 use Rattle.encoding.specs.Encode.{encodeChecks, encodeAnswer, encoded}
-use Rattle.lists.specs.Lists.{someOutside, rises, placeIn, setLive, someMissing, someLive, liveOutside, liveFrom}
+use Rattle.lists.specs.Lists.{someOutside, rises, placeIn, setLive, someMissing, liveOutside}
 use Rattle.planning.specs.Pairs.{largerNode, smallerNode}
-use Rattle.planning.specs.Plan.{isRepaired, stepsFrom, roundsFrom, planOf, marksAfter, stepBytes, lastRound, countFrom, nodesLeft}
+use Rattle.planning.specs.Plan.{isRepaired, stepsFrom, roundsFrom, planOf, marksAfter, stepBytes, lastRound, nodesLeft}
 use Rattle.planning.specs.Made.{stepsIn}
 use Rattle.planning.proofs.RoundLaws.{length-bytes}
 use Rattle.planning.proofs.CarryLaws.{steps-back}
 use Rattle.boxes.specs.Box.{boxChecks, bodyChecks, bodyOf}
 use Rattle.boxes.specs.Bodies.{bodiesOf, boxOf, withBodies}
 use Rattle.repair.specs.declared.Session.{Session}
-use Rattle.repair.specs.Session.{sessionOf, started, startChecks, nodesOf, noStart, nodesChecks}
+use Rattle.repair.specs.Session.{sessionOf, started, startChecks, nodeCountOf, noStart, nodesChecks}
 use Rattle.repair.specs.Boxed.{checkedBox, readChecks, readBox, nodesRead, writeChecks, written, outWritten}
 use Rattle.repair.specs.Step.{stepChecks, stepped, nodesStepped}
 use Rattle.repair.specs.Repairs.{planIn, runChecks}
@@ -44,7 +45,7 @@ HasFigures s steps rounds left =
     (stepBytes (planIn s) ≡ steps)
     × (lastRound (stepsIn steps (length steps / 4)) ≡ rounds)
     × (marksAfter (s .live) (stepsIn steps (length steps / 4)) ≡ allBut left s .live)
-    × (nodesLeft (allBut left s .live) (nodesOf s) ≡ length left)
+    × (nodesLeft (allBut left s .live) (nodeCountOf s) ≡ length left)
 
 -- plan and run give what is computed
 has-plan : (s : Session) (steps : List ℕ) (rounds : ℕ) (left : List ℕ) → noStart s ≡ false → HasFigures s steps rounds left → HasPlan s steps rounds left
@@ -99,18 +100,18 @@ Computed (Plans family k list steps rounds left) =
 Computed (BoxPlans box s steps rounds left) = (checkedBox box ≡ accepted s) × (noStart s ≡ false) × HasFigures s steps rounds left
 Computed (BoxSteps box j a b number) =
     (checkedBox box .refusal ≡ 0)
-    × ((byte : ℕ → ℕ) → StepGives (checkedBox box .session) j a b number (listFrom byte 0 (nodesOf (checkedBox box .session) * checkedBox box .session .len)))
-Computed (BoxReads box s after) = (byte : ℕ → ℕ) → Reads box s after (listFrom byte 0 (nodesOf s * s .len))
+    × ((byte : ℕ → ℕ) → StepGives (checkedBox box .session) j a b number (listFrom byte 0 (nodeCountOf (checkedBox box .session) * checkedBox box .session .len)))
+Computed (BoxReads box s after) = (byte : ℕ → ℕ) → Reads box s after (listFrom byte 0 (nodeCountOf s * s .len))
 Computed (BoxHolds box j start body) = Holds (BoxHolds box j start body)
 Computed (BoxLacks box j number) = Holds (BoxLacks box j number)
 Computed (BoxRewrites box s list) =
-    (byte : ℕ → ℕ) (out : List ℕ) → ltb (length out) (length box) ≡ false → Rewrites box s list (listFrom byte 0 (nodesOf s * s .len)) out
+    (byte : ℕ → ℕ) (out : List ℕ) → ltb (length out) (length box) ≡ false → Rewrites box s list (listFrom byte 0 (nodeCountOf s * s .len)) out
 Computed (Lists box text) = Holds (Lists box text)
 Computed (Starts family k L list number) = Holds (Starts family k L list number)
 Computed (BoxGives bytes number) = Holds (BoxGives bytes number)
 Computed (BoxWrites box list other) =
     (byte : ℕ → ℕ) (out : List ℕ) → ltb (length out) (length other) ≡ false
-    → outWritten (checkedBox box .session) (nodesRead box (listFrom byte 0 (nodesOf (checkedBox box .session) * checkedBox box .session .len))) list out ≡ other ++ drop (length other) out
+    → outWritten (checkedBox box .session) (nodesRead box (listFrom byte 0 (nodeCountOf (checkedBox box .session) * checkedBox box .session .len))) list out ≡ other ++ drop (length other) out
 
 -- and what follows
 holds : (row : Row) → Computed row → Holds row
@@ -121,17 +122,17 @@ holds (Plans family k list steps rounds left) (a, start, figures) = λ L h g.
     (rw (same, a), has-plan (sessionOf family k L list) steps rounds left (rw same start) figures)
 holds (BoxPlans box s steps rounds left) (a, start, figures) = (a, has-plan s steps rounds left start figures)
 holds (BoxSteps box j a b number) (e, c) =
-    (e, each (nodesOf (checkedBox box .session) * checkedBox box .session .len) (StepGives (checkedBox box .session) j a b number) c)
-holds (BoxReads box s after) c = each (nodesOf s * s .len) (Reads box s after) c
+    (e, each (nodeCountOf (checkedBox box .session) * checkedBox box .session .len) (StepGives (checkedBox box .session) j a b number) c)
+holds (BoxReads box s after) c = each (nodeCountOf s * s .len) (Reads box s after) c
 holds (BoxHolds box j start body) c = c
 holds (BoxLacks box j number) c = c
 holds (BoxRewrites box s list) c = λ nodes e out h.
-    each (nodesOf s * s .len) (λ nodes. Rewrites box s list nodes out) (λ byte. c byte out (le-ltb (length out) (length box) h)) nodes e
+    each (nodeCountOf s * s .len) (λ nodes. Rewrites box s list nodes out) (λ byte. c byte out (le-ltb (length out) (length box) h)) nodes e
 holds (Lists box text) c = c
 holds (Starts family k L list number) c = c
 holds (BoxGives bytes number) c = c
 holds (BoxWrites box list other) c = λ nodes e out h.
-    each (nodesOf (checkedBox box .session) * checkedBox box .session .len) (λ nodes. outWritten (checkedBox box .session) (nodesRead box nodes) list out ≡ other ++ drop (length other) out)
+    each (nodeCountOf (checkedBox box .session) * checkedBox box .session .len) (λ nodes. outWritten (checkedBox box .session) (nodesRead box nodes) list out ≡ other ++ drop (length other) out)
     (λ byte. c byte out (le-ltb (length out) (length other) h)) nodes e
 
 all-hold : (rows : List Row) → Every Computed rows → Every Holds rows
@@ -146,7 +147,7 @@ _&_ : {A B : Type 0} → A → B → A × B
 a & b = (a, b)
 
 computed : Every Computed table
-unfolding started refusalLine encodeChecks parameterChecks firstMet nodesBuffer nodeBlocks nodeBlock dataBlock columnOf nodeCount xorBytes startChecks checkedBox boxChecks someOutside rises setLive noStart liveOutside someLive planOf roundsFrom stepsFrom isRepaired smallerNode largerNode firstFrom areRelated smallerAt largerAt stepBytes lastRound nodesLeft countFrom liveFrom someMissing stepsIn othersFrom placeIn listFrom readBox nodesRead readChecks withBodies withBlock blockOf bodyChecks bodyOf writeChecks nodesChecks written outWritten boxOf bodiesOf stepChecks stepped nodesStepped listingOf answerOf listingIn firstLine stepLines stepLine lastLine field decimal digitCount
+unfolding started refusalLine encodeChecks parameterChecks firstMet nodesBuffer nodeBlocks nodeBlock dataBlock columnOf nodeCount xorBytes startChecks checkedBox boxChecks someOutside rises setLive noStart liveOutside someFrom planOf roundsFrom stepsFrom isRepaired smallerNode largerNode firstFrom areRelated smallerAt largerAt stepBytes lastRound nodesLeft countFrom thoseFrom someMissing stepsIn othersFrom placeIn listFrom readBox nodesRead readChecks withBodies withBlock blockOf bodyChecks bodyOf writeChecks nodesChecks written outWritten boxOf bodiesOf stepChecks stepped nodesStepped listingOf answerOf listingIn firstLine stepLines stepLine lastLine field decimal digitCount
 computed =
     (refl, refl)
     & (refl, refl, (refl, refl, refl, refl))

@@ -5,6 +5,7 @@ use mathlib.Core.List.{List, [], _∷_, _++_}
 use Prim.Native.Nat.{ℕ, zero, suc, _-_, _*_, _/_, _≤_}
 use Prim.Native.String.{String}
 use lib.ListN.{length, getD, drop}
+use Rattle.lists.specs.Lists.{isIn}
 use Rattle.checks.specs.Checks.{firstMet}
 use Rattle.checks.specs.Parameters.{mostL}
 use Rattle.encoding.specs.Encode.{encodeAnswer, encoded}
@@ -12,11 +13,10 @@ use Rattle.planning.specs.Made.{nodesMade, stepsIn}
 use Rattle.boxes.specs.Box.{bodyChecks, bodyStart, bodyOf}
 use Rattle.repair.specs.declared.Session.{Session}
 use Rattle.repair.specs.declared.Started.{Started}
-use Rattle.repair.specs.Session.{sessionOf, started, nodesOf}
+use Rattle.repair.specs.Session.{sessionOf, started, nodeCountOf}
 use Rattle.repair.specs.Boxed.{checkedBox, readBox, nodesRead, written, outWritten}
 use Rattle.repair.specs.Step.{stepped, nodesStepped}
 use Rattle.repair.specs.Repairs.{planned, outPlanned, ran, nodesRan}
-use Rattle.repair.specs.LeftOver.{isIn}
 use Rattle.listing.specs.Text.{ascii}
 use Rattle.listing.specs.Listing.{listingOf}
 
@@ -60,7 +60,7 @@ othersFrom list j (suc m) = let later = othersFrom list (suc j) m in cond (isIn 
 
 -- the session with every node live but those of a list
 abbrev pub allBut : List ℕ → Session → Session
-allBut list s = sessionOf (s .family) (s .k) (s .len) (othersFrom list 1 (nodesOf s))
+allBut list s = sessionOf (s .family) (s .k) (s .len) (othersFrom list 1 (nodeCountOf s))
 
 -- the plan of a session has these steps and rounds, and leaves these nodes
 pub record HasPlan (s : Session) (steps : List ℕ) (rounds : ℕ) (left : List ℕ) : Type 0 where
@@ -70,10 +70,10 @@ pub record HasPlan (s : Session) (steps : List ℕ) (rounds : ℕ) (left : List 
   -- the destination gets its steps and keeps what is beyond them
   pub plan-writes : (out : List ℕ) → length steps ≤ length out → outPlanned s out ≡ steps ++ drop (length steps) out
   -- run gives the same counts; in the next session every node is live but those left
-  pub run-gives : (nodes : List ℕ) → length nodes ≡ nodesOf s * s .len
+  pub run-gives : (nodes : List ℕ) → length nodes ≡ nodeCountOf s * s .len
       → ran s nodes ≡ record { refusal = 0; steps = length steps / 4; rounds = rounds; left = length left; session = allBut left s }
   -- the nodes buffer is as these very steps leave it, made one after the other
-  pub run-leaves : (nodes : List ℕ) → length nodes ≡ nodesOf s * s .len
+  pub run-leaves : (nodes : List ℕ) → length nodes ≡ nodeCountOf s * s .len
       → nodesRan s nodes ≡ nodesMade (s .len) nodes (stepsIn steps (length steps / 4))
 
 -- a step that gives this number: session and nodes buffer stay
@@ -100,18 +100,18 @@ Holds (Plans family k list steps rounds left) =
 Holds (BoxPlans box s steps rounds left) = (checkedBox box ≡ accepted s) × HasPlan s steps rounds left
 Holds (BoxSteps box j a b number) =
     (checkedBox box .refusal ≡ 0)
-    × ((nodes : List ℕ) → length nodes ≡ nodesOf (checkedBox box .session) * checkedBox box .session .len
+    × ((nodes : List ℕ) → length nodes ≡ nodeCountOf (checkedBox box .session) * checkedBox box .session .len
     → StepGives (checkedBox box .session) j a b number nodes)
-Holds (BoxReads box s after) = (nodes : List ℕ) → length nodes ≡ nodesOf s * s .len → Reads box s after nodes
+Holds (BoxReads box s after) = (nodes : List ℕ) → length nodes ≡ nodeCountOf s * s .len → Reads box s after nodes
 Holds (BoxHolds box j start body) = (firstMet (bodyChecks box j) ≡ 0) × (bodyStart box j ≡ start) × (bodyOf box j ≡ body)
 Holds (BoxLacks box j number) = (firstMet (bodyChecks box j) ≡ number) × (bodyOf box j ≡ [])
 Holds (BoxRewrites box s list) =
-    (nodes : List ℕ) → length nodes ≡ nodesOf s * s .len → (out : List ℕ) → length box ≤ length out → Rewrites box s list nodes out
+    (nodes : List ℕ) → length nodes ≡ nodeCountOf s * s .len → (out : List ℕ) → length box ≤ length out → Rewrites box s list nodes out
 Holds (Lists box text) = listingOf box ≡ ascii text
 Holds (Starts family k L list number) = started family k L list .refusal ≡ number
 Holds (BoxGives bytes number) = checkedBox bytes .refusal ≡ number
 Holds (BoxWrites box list other) =
-    (nodes : List ℕ) → length nodes ≡ nodesOf (checkedBox box .session) * checkedBox box .session .len
+    (nodes : List ℕ) → length nodes ≡ nodeCountOf (checkedBox box .session) * checkedBox box .session .len
     → (out : List ℕ) → length other ≤ length out → outWritten (checkedBox box .session) (nodesRead box nodes) list out ≡ other ++ drop (length other) out
 
 -- this is so of every row of a table

@@ -13,7 +13,7 @@ use lib.Dec.{eqb}
 use lib.Pow.{pow-pos, pow-mono, pow-lt}
 use Rattle.base.proofs.Xor.{xor-third, xor-assoc}
 use Rattle.base.proofs.LowestBit.{Lowest, lowest, lowest-power, lowest-sum, pow-below}
-use Rattle.families.proofs.First.{first-of, first-none, found}
+use Rattle.base.proofs.First.{first-of, first-none, found}
 use Rattle.families.proofs.PairLaws.{PairOf, pair-of, pair-count, pair-once, unit-lt, data-column, pair-column, pair-is-node, pairs-le, placeOf}
 use Rattle.families.proofs.TetrahedronLaws.{Entry, entry}
 use Rattle.families.proofs.TetrahedronLaws as tetra

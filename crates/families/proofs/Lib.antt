@@ -1,4 +1,3 @@
-pub mod First
 pub mod PairLaws
 pub mod TetrahedronLaws
 pub mod Laws

@@ -3,7 +3,8 @@
 use mathlib.Core.Path.{_≡_, refl, sym}
 use Prim.Native.Nat.{ℕ, _≤_}
 use native.Mathlib.Omega.{arith}
-use Rattle.families.specs.Families.{nodeOf, firstFrom, columnOf, nodeCount}
+use Rattle.base.specs.Ranges.{firstFrom}
+use Rattle.families.specs.Families.{nodeOf, columnOf, nodeCount}
 use Rattle.families.specs.Claims.{FamilyClaim, PairClaim, TetrahedronClaim}
 use Rattle.families.proofs.PairLaws.{data-column, pair-column, pair-is-node}
 use Rattle.families.proofs.Laws.{few, column, column-once, node-is, node-of, above-none, zero-none, related-differ, related-turn}

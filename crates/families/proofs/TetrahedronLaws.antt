@@ -9,9 +9,10 @@ use borrow.Author.Tests.{eqb-true, ne-eqb, ltb-true, leb-true}
 use lib.Count.{trailingZeros}
 use lib.Dec.{eqb, ltb, leb}
 use lib.ListN.{getD}
+use Rattle.base.specs.Ranges.{firstFrom}
 use Rattle.base.proofs.Tests.{and-left, and-right, allBelow, all-below}
-use Rattle.families.proofs.First.{first-none}
-use Rattle.families.specs.Families.{columnOf, nodeOf, nodeCount, firstFrom}
+use Rattle.base.proofs.First.{first-none}
+use Rattle.families.specs.Families.{columnOf, nodeOf, nodeCount}
 use Rattle.families.specs.declared.Family.the-variants.{Tetrahedron}
 
 -- the nodes of columns 0 to 15, as the code has them

@@ -1,11 +1,12 @@
 -- The three code families (document 01, "Families"): the range of k, the number of nodes, each node's column, the node of
 -- a column, and which nodes are related.
 use Prim.Native.Nat.{ℕ, zero, suc, _+_, _-_, _*_, _/_, _^_, _≤_}
-use mathlib.Core.Bool.{Bool, cond, _&&_}
+use mathlib.Core.Bool.{Bool, cond}
 use mathlib.Core.List.{List, [], _∷_}
 use lib.ListN.{getD}
 use lib.Bits.{bitXor}
-use lib.Dec.{eqb, leb, ltb}
+use lib.Dec.{eqb, ltb}
+use Rattle.base.specs.Ranges.{firstFrom}
 use Rattle.families.specs.declared.Family.{Family}
 use Rattle.families.specs.declared.Family.the-variants.{Simplex, WeightTwo, Tetrahedron}
 
@@ -71,11 +72,6 @@ columnOf Simplex k j = j
 columnOf WeightTwo k j = unit (smallerAt k (j - 1)) + unit (largerAt k (j - 1))
 columnOf Tetrahedron k j = getD tetrahedron (j - 1) 0
 
--- the first of the numbers j, j + 1, .., of which there are m, that passes the test; 0 where none does
-unfoldable pub firstFrom : (ℕ → Bool) → ℕ → ℕ → ℕ
-firstFrom test j zero = 0
-firstFrom test j (suc m) = let later = firstFrom test (suc j) m in cond (test j) j later
-
 -- the node with a column; 0 where there is no such node
 unfoldable pub nodeOf : Family → ℕ → ℕ → ℕ
 nodeOf f k column = firstFrom (λ j. eqb (columnOf f k j) column) 1 (nodeCount f k)
@@ -83,13 +79,3 @@ nodeOf f k column = firstFrom (λ j. eqb (columnOf f k j) column) 1 (nodeCount f
 -- three nodes are related: the XOR of their columns is 0
 unfoldable pub areRelated : Family → ℕ → ℕ → ℕ → ℕ → Bool
 areRelated f k a b c = eqb (bitXor (bitXor (columnOf f k a) (columnOf f k b)) (columnOf f k c)) 0
-
-module _ {A : Type 0} where
-  -- g j, g (j + 1), .., m of them
-  unfoldable pub listFrom : (ℕ → A) → ℕ → ℕ → List A
-  listFrom g j zero = []
-  listFrom g j (suc m) = g j ∷ listFrom g (suc j) m
-
--- the columns by node number, 0 to 255: 0 for node 0 and above n, where there is no node
-unfoldable pub columnTable : Family → ℕ → List ℕ
-columnTable f k = listFrom (λ j. cond (leb 1 j && leb j (nodeCount f k)) (columnOf f k j) 0) 0 256

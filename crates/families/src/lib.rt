@@ -6,7 +6,8 @@ mod tetrahedron;
 ghost use mathlib.Core.Path.{_≡_};
 ghost use Prim.Native.Nat.{_^_, _<_};
 ghost use lib.Bits.{bitXor};
-ghost use Rattle.families.specs.Families.{familyOf, leastK, mostK, KInRange, IsNode, nodeCount, columnOf, nodeOf, areRelated, columnTable};
+ghost use Rattle.families.specs.Families.{familyOf, leastK, mostK, KInRange, IsNode, nodeCount, columnOf, nodeOf, areRelated};
+ghost use Rattle.families.specs.Inner.{columnTable};
 ghost use Rattle.families.specs.declared.Family.the-variants.{Simplex};
 
 // A family; its number in document 01 is 1, 2 or 3, in this order.

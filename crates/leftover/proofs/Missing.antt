@@ -7,12 +7,12 @@ use mathlib.Core.Logic.{_↔_}
 use Prim.Native.Nat.{ℕ, _≤_, _<_}
 use borrow.Author.Tests.{not-true}
 use lib.ListN.{length, getD}
+use Rattle.base.specs.Ranges.{countFrom}
 use Rattle.base.proofs.Tests.{is-false}
 use Rattle.families.specs.declared.Family.{Family}
 use Rattle.families.specs.declared.Family.the-variants.{Simplex, WeightTwo, Tetrahedron}
 use Rattle.families.specs.Families.{KInRange, IsNode, nodeCount}
 use Rattle.planning.specs.Pairs.{NoPairLeft}
-use Rattle.planning.specs.Plan.{countFrom}
 use Rattle.leftover.specs.Open.{Open, OpenCount}
 use Rattle.leftover.proofs.Cut.{Cut, cut-open}
 use Rattle.leftover.proofs.Full.{simplex-full, tetrahedron-full, full-cut}

@@ -5,10 +5,10 @@ use mathlib.Core.List.{List}
 use mathlib.Core.Logic.{_↔_}
 use Prim.Native.Nat.{ℕ, _*_, _<_}
 use lib.ListN.{length, getD}
+use Rattle.base.specs.Ranges.{countFrom}
 use Rattle.families.specs.declared.Family.{Family}
 use Rattle.families.specs.Families.{IsNode, nodeCount, columnOf}
 use Rattle.encoding.specs.Matrix.{nodeBlock}
-use Rattle.planning.specs.Plan.{countFrom}
 
 -- an object: k data blocks of L bytes, whatever L is
 pub record Object (k L : ℕ) (bytes : List ℕ) : Type 0 where

@@ -10,7 +10,7 @@ use borrow.Author.Tests.{lt-ltb, le-ltb, eq-eqb, ne-eqb}
 use lib.ListN.{length, drop, replicate, length-append, length-replicate}
 use Rattle.families.specs.Families.{familyOf}
 use Rattle.families.proofs.Laws.{few}
-use Rattle.boxes.specs.Box.{familyIn, kIn, lengthIn, namesIn, nodesIn}
+use Rattle.boxes.specs.Box.{familyIn, kIn, blockLengthIn, namesIn, nodeCountIn}
 use Rattle.planning.specs.Made.{stepsIn}
 use Rattle.planning.proofs.CarryLaws.{steps-back}
 use Rattle.repair.specs.declared.Session.{Session}
@@ -75,7 +75,7 @@ module _ (input : List ℕ) where
   box-known passes =
       let from = box-start-claim input passes .start in
       let accepted = ap (λ (r : Started). r .refusal) (sym from) ∙ passes in
-      rw from (fits-claim .start (familyIn input) (kIn input) (lengthIn input) (namesIn input) (replicate (nodesIn input * lengthIn input) 0) accepted (length-replicate (nodesIn input * lengthIn input) 0) .starts)
+      rw from (fits-claim .start (familyIn input) (kIn input) (blockLengthIn input) (namesIn input) (replicate (nodeCountIn input * blockLengthIn input) 0) accepted (length-replicate (nodeCountIn input * blockLengthIn input) 0) .starts)
 
 -- ---- the plan of an accepted box's session
 

@@ -7,7 +7,7 @@ use native.Mathlib.Omega.{arith}
 use lib.ListN.{length, drop, length-append}
 use borrow.Rule.Slice.PartMut.{same-len-mid}
 use Rattle.blocks.proofs.PartLaws.{put-beside, length-mid}
-use Rattle.listing.specs.Put.{Put}
+use Rattle.listing.specs.Inner.{Put}
 
 module _ {out : List ℕ} {at : ℕ} {text after : List ℕ} {end : ℕ} (w : Put out at text after end) where
   -- the buffer keeps its length

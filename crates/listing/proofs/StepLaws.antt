@@ -11,7 +11,7 @@ use mir.Syntax.{w8}
 use mir.Val.{Fits}
 use Rattle.planning.specs.Plan.{Step}
 use Rattle.planning.specs.Made.{stepsIn}
-use Rattle.listing.specs.Put.{Put}
+use Rattle.listing.specs.Inner.{Put}
 use Rattle.listing.specs.Text.{stepLine, stepLines}
 use Rattle.listing.proofs.TextLaws.{step-line-most}
 use Rattle.listing.proofs.PutLaws.{kept, then}

@@ -10,10 +10,10 @@ use native.Mathlib.Omega.{arith}
 use borrow.Author.Tests.{lt-ltb, le-ltb}
 use lib.Dec.{ltb}
 use lib.ListN.{length, length-append}
+use Rattle.base.specs.Ranges.{firstFrom}
 use Rattle.io.specs.Digits.{digits, Fewest}
 use Rattle.base.proofs.Tests.{not-both}
-use Rattle.families.specs.Families.{firstFrom}
-use Rattle.families.proofs.First.{first-of}
+use Rattle.base.proofs.First.{first-of}
 use Rattle.planning.specs.Plan.{Step}
 use Rattle.listing.specs.Text.{ascii, digitCount, decimal, field, firstLine, stepLine, lastLine, refusalLine}
 

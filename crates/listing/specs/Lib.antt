@@ -1,3 +1,3 @@
-pub mod Put
+pub mod Inner
 pub mod Text
 pub mod Listing

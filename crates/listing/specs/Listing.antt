@@ -6,7 +6,7 @@ use lib.Dec.{eqb, ltb}
 use lib.ListN.{length}
 use Rattle.lists.specs.Lists.{liveNodes}
 use Rattle.repair.specs.declared.Session.{Session}
-use Rattle.repair.specs.Session.{nodesOf}
+use Rattle.repair.specs.Session.{nodeCountOf}
 use Rattle.repair.specs.Boxed.{checkedBox}
 use Rattle.repair.specs.Repairs.{planIn, repairsOf}
 use Rattle.listing.specs.Text.{firstLine, stepLines, lastLine, refusalLine, tooLongLine}
@@ -25,7 +25,7 @@ answerOf input text =
 -- rounds and nodes left
 unfoldable pub listingIn : Session → List ℕ
 listingIn s =
-    firstLine (s .family) (s .k) (s .len) (length (liveNodes (s .live) (nodesOf s)))
+    firstLine (s .family) (s .k) (s .len) (length (liveNodes (s .live) (nodeCountOf s)))
     ++ (stepLines (planIn s)
     ++ lastLine (repairsOf s s .steps) (repairsOf s s .rounds) (repairsOf s s .left))
 

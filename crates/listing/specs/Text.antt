@@ -4,8 +4,8 @@ use mathlib.Core.List.{List, [], _∷_, _++_}
 use Prim.Native.Char.{code}
 use Prim.Native.String.{String, [] as none, _∷_ as _then_}
 use lib.Dec.{ltb}
+use Rattle.base.specs.Ranges.{firstFrom}
 use Rattle.io.specs.Digits.{digits}
-use Rattle.families.specs.Families.{firstFrom}
 use Rattle.planning.specs.Plan.{Step}
 
 -- a text of letters, digits, spaces and line ends: a byte each

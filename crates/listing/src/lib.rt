@@ -16,7 +16,7 @@ ghost use Prim.Native.Nat.{_+_, _≤_};
 ghost use lib.ListN.{length, drop, replicate};
 ghost use Rattle.repair.specs.Session.{noStart};
 ghost use Rattle.repair.specs.Repairs.{planIn, repairsOf};
-ghost use Rattle.listing.specs.Put.{Put};
+ghost use Rattle.listing.specs.Inner.{Put};
 ghost use Rattle.listing.specs.Text.{stepLines, lastLine, tooLongLine};
 ghost use Rattle.listing.specs.Listing.{answerOf, listingIn, listingOf};
 

@@ -8,7 +8,7 @@ ghost use mathlib.Core.List.{_++_};
 ghost use Prim.Native.Nat.{_+_, _*_, _≤_};
 ghost use lib.ListN.{length, drop};
 ghost use Rattle.planning.specs.Made.{stepsIn};
-ghost use Rattle.listing.specs.Put.{Put};
+ghost use Rattle.listing.specs.Inner.{Put};
 ghost use Rattle.listing.specs.Text.{firstLine, stepLine, stepLines, lastLine, refusalLine};
 
 // `family 1 k 3 length 1 live 3`, at the front of `out`.

@@ -2,7 +2,7 @@
 ghost use mathlib.Core.List.{_++_};
 ghost use Prim.Native.Nat.{_+_, _≤_};
 ghost use lib.ListN.{length};
-ghost use Rattle.listing.specs.Put.{Put};
+ghost use Rattle.listing.specs.Inner.{Put};
 ghost use Rattle.listing.specs.Text.{decimal, field, newline};
 
 // A word.

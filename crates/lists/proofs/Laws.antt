@@ -11,12 +11,13 @@ use borrow.Author.Tests.{ltb-true, ltb-false, lt-ltb, eqb-true, eqb-false, eq-eq
 use lib.Dec.{ltb, eqb, leb·suc-suc}
 use lib.ListN.{length, getD, set, length-set, getD-replicate}
 use lib.Seq.{getD-set-same, getD-set-other, ext-getD}
+use Rattle.base.specs.Ranges.{someFrom, thoseFrom}
 use Rattle.base.proofs.Tests.{and-left, and-right, and-both, or-neither, is-false}
 use Rattle.checks.specs.Checks.{firstMet}
 use Rattle.checks.specs.Claims.{NoneMet}
 use Rattle.checks.proofs.Laws.{accepted, inside, outside-no}
 use Rattle.checks.specs.Parameters.{outside}
-use Rattle.lists.specs.Lists.{someOutside, rises, listChecks, placeIn, noneLive, isLive, setLive, someMissing, someLive, liveOutside, liveFrom, liveNodes}
+use Rattle.lists.specs.Lists.{someOutside, rises, listChecks, placeIn, isIn, noneLive, isLive, setLive, someMissing, liveOutside, liveNodes}
 
 -- a list that is not refused meets neither 4 nor 5
 pub list-accepted : (n : ℕ) (list : List ℕ) → firstMet (listChecks n list) ≡ 0 → NoneMet (listChecks n list)
@@ -49,24 +50,21 @@ outside-more m n (x ∷ list) h o =
 
 -- ---- a number's being in a list
 
-abbrev has : List ℕ → ℕ → Bool
-has list j = ltb (placeIn list j) (length list)
-
-has-cons : (x : ℕ) (list : List ℕ) (j : ℕ) → has (x ∷ list) j ≡ (eqb x j || has list j)
+has-cons : (x : ℕ) (list : List ℕ) (j : ℕ) → isIn (x ∷ list) j ≡ (eqb x j || isIn list j)
 unfolding placeIn
 has-cons x list j = go (eqb x j)
   where
-    go : (b : Bool) → ltb (cond b 0 (suc (placeIn list j))) (suc (length list)) ≡ (b || has list j)
+    go : (b : Bool) → ltb (cond b 0 (suc (placeIn list j))) (suc (length list)) ≡ (b || isIn list j)
     go true = lt-ltb 0 (suc (length list)) (omega arith)
     go false = leb·suc-suc (suc (placeIn list j)) (length list)
 
-has-inside : (n : ℕ) (list : List ℕ) (j : ℕ) → someOutside n list ≡ false → has list j ≡ true → (1 ≤ j) × (j ≤ n)
+has-inside : (n : ℕ) (list : List ℕ) (j : ℕ) → someOutside n list ≡ false → isIn list j ≡ true → (1 ≤ j) × (j ≤ n)
 unfolding placeIn
 has-inside n [] j o h = absurd (false≢true h)
 has-inside n (x ∷ list) j o h =
     let p = outside-both n x list o in
-    ⊎-elim (λ (e : eqb x j ≡ true). rw (sym (eqb-true x j e)) (p .0)) (λ (t : has list j ≡ true). has-inside n list j (p .1) t)
-    (or-either (eqb x j) (has list j) (sym (has-cons x list j) ∙ h))
+    ⊎-elim (λ (e : eqb x j ≡ true). rw (sym (eqb-true x j e)) (p .0)) (λ (t : isIn list j ≡ true). has-inside n list j (p .1) t)
+    (or-either (eqb x j) (isIn list j) (sym (has-cons x list j) ∙ h))
   where
     or-either : (a b : Bool) → (a || b) ≡ true → (a ≡ true) ⊎ (b ≡ true)
     or-either true b t = inl refl
@@ -86,14 +84,14 @@ set-mark marks x j h = go (eqb x j) refl
     go true e = rw (sym (eqb-true x j e)) (getD-set-same marks x true false h)
     go false e = getD-set-other marks x j true false (λ q. eqb-false x j e (sym q))
 
-set-live : (marks : List Bool) (list : List ℕ) (j : ℕ) → length marks ≡ 256 → someOutside 255 list ≡ false → isLive (setLive marks list) j ≡ (has list j || isLive marks j)
+set-live : (marks : List Bool) (list : List ℕ) (j : ℕ) → length marks ≡ 256 → someOutside 255 list ≡ false → isLive (setLive marks list) j ≡ (isIn list j || isLive marks j)
 unfolding setLive placeIn
 set-live marks [] j l o = refl
 set-live marks (x ∷ list) j l o =
     let p = outside-both 255 x list o in
     set-live (set marks x true) list j (length-set marks x true ∙ l) (p .1)
-    ∙ ap (λ (b : Bool). has list j || b) (set-mark marks x j (omega arith))
-    ∙ swap (has list j) (eqb x j) (isLive marks j)
+    ∙ ap (λ (b : Bool). isIn list j || b) (set-mark marks x j (omega arith))
+    ∙ swap (isIn list j) (eqb x j) (isLive marks j)
     ∙ ap (λ (b : Bool). b || isLive marks j) (sym (has-cons x list j))
   where
     swap : (a b c : Bool) → (a || (b || c)) ≡ ((b || a) || c)
@@ -102,21 +100,21 @@ set-live marks (x ∷ list) j l o =
     swap false true c = refl
     swap false false c = refl
 
-pub live-of-list : (list : List ℕ) (j : ℕ) → j < 256 → someOutside 255 list ≡ false → isLive (setLive noneLive list) j ≡ ltb (placeIn list j) (length list)
-live-of-list list j h o = set-live noneLive list j refl o ∙ ap (λ (b : Bool). has list j || b) (getD-replicate 256 j false false h) ∙ or-false (has list j)
+pub live-of-list : (list : List ℕ) (j : ℕ) → j < 256 → someOutside 255 list ≡ false → isLive (setLive noneLive list) j ≡ isIn list j
+live-of-list list j h o = set-live noneLive list j refl o ∙ ap (λ (b : Bool). isIn list j || b) (getD-replicate 256 j false false h) ∙ or-false (isIn list j)
 
 -- ---- marks that are live, of m from j on
 
-some-none : (marks : List Bool) (j m : ℕ) → ((i : ℕ) → j ≤ i → i < j + m → isLive marks i ≡ false) → someLive marks j m ≡ false
-unfolding someLive
+some-none : (marks : List Bool) (j m : ℕ) → ((i : ℕ) → j ≤ i → i < j + m → isLive marks i ≡ false) → someFrom (isLive marks) j m ≡ false
+unfolding someFrom
 some-none marks j zero h = refl
 some-none marks j (suc m) h = simp (h j (omega arith) (omega arith), some-none marks (suc j) m (λ i l g. h i (omega arith) (omega arith)))
 
-none-live : (marks : List Bool) (j m : ℕ) → someLive marks j m ≡ false → (i : ℕ) → j ≤ i → i < j + m → isLive marks i ≡ false
-unfolding someLive
+none-live : (marks : List Bool) (j m : ℕ) → someFrom (isLive marks) j m ≡ false → (i : ℕ) → j ≤ i → i < j + m → isLive marks i ≡ false
+unfolding someFrom
 none-live marks j zero s i l h = absurd (omega arith)
 none-live marks j (suc m) s i l h =
-    let p = or-neither (isLive marks j) (someLive marks (suc j) m) s in
+    let p = or-neither (isLive marks j) (someFrom (isLive marks) (suc j) m) s in
     ⊎-elim (λ (e : j ≡ i). rw (sym e) (p .0)) (λ (g : j < i). none-live marks (suc j) m (p .1) i g (omega arith)) (eq-or-lt-of-le l)
 
 pub list-outside-none : (n : ℕ) (list : List ℕ) → n ≤ 255 → someOutside n list ≡ false → liveOutside n (setLive noneLive list) ≡ false
@@ -124,7 +122,7 @@ unfolding liveOutside
 list-outside-none n list h o = simp (missed 0 (omega arith) (λ l. omega arith), some-none (setLive noneLive list) (n + 1) (255 - n) (λ i l g. missed i (omega arith) (λ p. omega arith)))
   where
     missed : (i : ℕ) → i < 256 → ((1 ≤ i) × (i ≤ n) → ⊥) → isLive (setLive noneLive list) i ≡ false
-    missed i g out = live-of-list list i g (outside-more n 255 list h o) ∙ is-false (has list i) (λ t. out (has-inside n list i o t))
+    missed i g out = live-of-list list i g (outside-more n 255 list h o) ∙ is-false (isIn list i) (λ t. out (has-inside n list i o t))
 
 -- ---- lists that rise
 
@@ -159,7 +157,7 @@ few-from n j (x ∷ list) r o = omega (arith, few-from n (suc x) list (r .1) (ou
 pub rising-few : (n : ℕ) (list : List ℕ) → someOutside n list ≡ false → rises list ≡ true → length list ≤ n
 rising-few n list o r = omega (arith, few-from n 1 list (rises-from n list o r) o)
 
-has-below : (j : ℕ) (list : List ℕ) (i : ℕ) → RisesFrom j list → i < j → has list i ≡ false
+has-below : (j : ℕ) (list : List ℕ) (i : ℕ) → RisesFrom j list → i < j → isIn list i ≡ false
 unfolding placeIn
 has-below j [] i r h = refl
 has-below j (x ∷ list) i r h = has-cons x list i ∙ simp (ne-eqb x i (λ e. omega arith), has-below (suc x) list i (r .1) (omega arith))
@@ -172,47 +170,47 @@ either P true x later y n = y refl
 either P false x later y n = n refl
 
 module _ (marks : List Bool) where
-  pub live-few : (j m : ℕ) → length (liveFrom marks j m) ≤ m
-  unfolding liveFrom
+  pub live-few : (j m : ℕ) → length (thoseFrom (isLive marks) j m) ≤ m
+  unfolding thoseFrom
   live-few j zero = omega arith
   live-few j (suc m) =
       let h = live-few (suc j) m in
-      either (λ list. length list ≤ suc m) (isLive marks j) j (liveFrom marks (suc j) m) (λ t. omega arith) (λ f. omega arith)
+      either (λ list. length list ≤ suc m) (isLive marks j) j (thoseFrom (isLive marks) (suc j) m) (λ t. omega arith) (λ f. omega arith)
 
-  live-inside : (n j m : ℕ) → 1 ≤ j → j + m ≤ n + 1 → someOutside n (liveFrom marks j m) ≡ false
-  unfolding liveFrom someOutside
+  live-inside : (n j m : ℕ) → 1 ≤ j → j + m ≤ n + 1 → someOutside n (thoseFrom (isLive marks) j m) ≡ false
+  unfolding thoseFrom someOutside
   live-inside n j zero l h = refl
   live-inside n j (suc m) l h =
       let o = live-inside n (suc j) m (omega arith) (omega arith) in
-      either (λ list. someOutside n list ≡ false) (isLive marks j) j (liveFrom marks (suc j) m) (λ t. outside-cons n j (liveFrom marks (suc j) m) l (omega arith) o) (λ f. o)
+      either (λ list. someOutside n list ≡ false) (isLive marks j) j (thoseFrom (isLive marks) (suc j) m) (λ t. outside-cons n j (thoseFrom (isLive marks) (suc j) m) l (omega arith) o) (λ f. o)
 
-  live-rise : (j m : ℕ) → RisesFrom j (liveFrom marks j m)
-  unfolding liveFrom
+  live-rise : (j m : ℕ) → RisesFrom j (thoseFrom (isLive marks) j m)
+  unfolding thoseFrom
   live-rise j zero = tt
   live-rise j (suc m) =
       let r = live-rise (suc j) m in
-      either (RisesFrom j) (isLive marks j) j (liveFrom marks (suc j) m) (λ t. (omega arith, r)) (λ f. from-lower j (suc j) (liveFrom marks (suc j) m) (omega arith) r)
+      either (RisesFrom j) (isLive marks j) j (thoseFrom (isLive marks) (suc j) m) (λ t. (omega arith, r)) (λ f. from-lower j (suc j) (thoseFrom (isLive marks) (suc j) m) (omega arith) r)
 
-  live-live : (j m : ℕ) → someMissing marks (liveFrom marks j m) ≡ false
-  unfolding liveFrom someMissing
+  live-live : (j m : ℕ) → someMissing marks (thoseFrom (isLive marks) j m) ≡ false
+  unfolding thoseFrom someMissing
   live-live j zero = refl
   live-live j (suc m) =
       let s = live-live (suc j) m in
-      either (λ list. someMissing marks list ≡ false) (isLive marks j) j (liveFrom marks (suc j) m) (λ t. simp (t, s)) (λ f. s)
+      either (λ list. someMissing marks list ≡ false) (isLive marks j) j (thoseFrom (isLive marks) (suc j) m) (λ t. simp (t, s)) (λ f. s)
 
-  has-live : (j m i : ℕ) → j ≤ i → i < j + m → has (liveFrom marks j m) i ≡ isLive marks i
-  unfolding liveFrom
+  has-live : (j m i : ℕ) → j ≤ i → i < j + m → isIn (thoseFrom (isLive marks) j m) i ≡ isLive marks i
+  unfolding thoseFrom
   has-live j zero i l h = absurd (omega arith)
   has-live j (suc m) i l h = ⊎-elim here (λ (g : j < i). later g (has-live (suc j) m i g (omega arith))) (eq-or-lt-of-le l)
     where
       rest : List ℕ
-      rest = liveFrom marks (suc j) m
+      rest = thoseFrom (isLive marks) (suc j) m
 
-      here : j ≡ i → has (cond (isLive marks j) (j ∷ rest) rest) i ≡ isLive marks i
-      here e = either (λ list. has list i ≡ isLive marks i) (isLive marks j) j rest (λ t. has-cons j rest i ∙ simp (eq-eqb j i e) (sym (rw e at t))) (λ f. has-below (suc j) rest i (live-rise (suc j) m) (omega arith) ∙ sym (rw e at f))
+      here : j ≡ i → isIn (cond (isLive marks j) (j ∷ rest) rest) i ≡ isLive marks i
+      here e = either (λ list. isIn list i ≡ isLive marks i) (isLive marks j) j rest (λ t. has-cons j rest i ∙ simp (eq-eqb j i e) (sym (rw e at t))) (λ f. has-below (suc j) rest i (live-rise (suc j) m) (omega arith) ∙ sym (rw e at f))
 
-      later : j < i → has rest i ≡ isLive marks i → has (cond (isLive marks j) (j ∷ rest) rest) i ≡ isLive marks i
-      later g s = either (λ list. has list i ≡ isLive marks i) (isLive marks j) j rest (λ t. has-cons j rest i ∙ simp (ne-eqb j i (λ e. omega arith)) s) (λ f. s)
+      later : j < i → isIn rest i ≡ isLive marks i → isIn (cond (isLive marks j) (j ∷ rest) rest) i ≡ isLive marks i
+      later g s = either (λ list. isIn list i ≡ isLive marks i) (isLive marks j) j rest (λ t. has-cons j rest i ∙ simp (ne-eqb j i (λ e. omega arith)) s) (λ f. s)
 
   pub live-nodes-few : (n : ℕ) → length (liveNodes marks n) ≤ n
   live-nodes-few n = live-few 1 n
@@ -230,8 +228,8 @@ module _ (marks : List Bool) where
 
 -- marks that are live exactly in a rising list have it as their live nodes
 live-are : (marks : List Bool) (n : ℕ) (list : List ℕ) (j m : ℕ) → j + m ≡ n + 1 → RisesFrom j list → someOutside n list ≡ false
-    → ((i : ℕ) → j ≤ i → i ≤ n → isLive marks i ≡ has list i) → liveFrom marks j m ≡ list
-unfolding liveFrom placeIn
+    → ((i : ℕ) → j ≤ i → i ≤ n → isLive marks i ≡ isIn list i) → thoseFrom (isLive marks) j m ≡ list
+unfolding thoseFrom placeIn
 live-are marks n [] j zero e r o h = refl
 live-are marks n (x ∷ list) j zero e r o h = absurd (omega (arith, outside-both n x list o .0))
 live-are marks n [] j (suc m) e r o h = simp (h j (omega arith) (omega arith)) (live-are marks n [] (suc j) m (omega arith) tt o (λ i l g. h i (omega arith) g))
@@ -262,17 +260,17 @@ marks-of-live-nodes n marks l h o =
     let k : i < 256 = omega (arith, length-setLive noneLive (liveNodes marks n)) in
     live-of-list (liveNodes marks n) i k (outside-more n 255 (liveNodes marks n) h (live-nodes-inside marks n)) ∙ same i k)
   where
-    p : (isLive marks 0 ≡ false) × (someLive marks (n + 1) (255 - n) ≡ false)
-    p = or-neither (isLive marks 0) (someLive marks (n + 1) (255 - n)) o
+    p : (isLive marks 0 ≡ false) × (someFrom (isLive marks) (n + 1) (255 - n) ≡ false)
+    p = or-neither (isLive marks 0) (someFrom (isLive marks) (n + 1) (255 - n)) o
 
-    same : (i : ℕ) → i < 256 → has (liveNodes marks n) i ≡ isLive marks i
+    same : (i : ℕ) → i < 256 → isIn (liveNodes marks n) i ≡ isLive marks i
     same zero g = has-below 1 (liveNodes marks n) 0 (live-rise marks 1 n) (omega arith) ∙ sym (p .0)
     same (suc i) g = go (ltb n (suc i)) refl
       where
-        go : (b : Bool) → ltb n (suc i) ≡ b → has (liveNodes marks n) (suc i) ≡ isLive marks (suc i)
+        go : (b : Bool) → ltb n (suc i) ≡ b → isIn (liveNodes marks n) (suc i) ≡ isLive marks (suc i)
         go true e =
             let k = ltb-true n (suc i) e in
-            is-false (has (liveNodes marks n) (suc i)) (λ t. omega (arith, has-inside n (liveNodes marks n) (suc i) (live-nodes-inside marks n) t))
+            is-false (isIn (liveNodes marks n) (suc i)) (λ t. omega (arith, has-inside n (liveNodes marks n) (suc i) (live-nodes-inside marks n) t))
             ∙ sym (none-live marks (n + 1) (255 - n) (p .1) (suc i) (omega arith) (omega arith))
         go false e =
             let k = ltb-false n (suc i) e in

@@ -1,9 +1,10 @@
 -- Node lists and marks (document 01, "The session"): a list holds node numbers, and marks say of each number which is live.
-use Prim.Native.Nat.{ℕ, zero, suc, _+_, _-_}
+use Prim.Native.Nat.{ℕ, suc, _+_, _-_}
 use mathlib.Core.Bool.{Bool, true, false, cond, not, _&&_, _||_}
 use mathlib.Core.List.{List, [], _∷_}
-use lib.ListN.{getD, set, replicate}
+use lib.ListN.{length, getD, set, replicate}
 use lib.Dec.{eqb, ltb}
+use Rattle.base.specs.Ranges.{someFrom, thoseFrom}
 use Rattle.checks.specs.Checks.{Check, _gives_}
 use Rattle.checks.specs.Parameters.{outside}
 
@@ -27,6 +28,10 @@ unfoldable pub placeIn : List ℕ → ℕ → ℕ
 placeIn [] j = 0
 placeIn (i ∷ list) j = cond (eqb i j) 0 (suc (placeIn list j))
 
+-- a number is in a list
+abbrev pub isIn : List ℕ → ℕ → Bool
+isIn list j = ltb (placeIn list j) (length list)
+
 -- a mark for each of the numbers 0 to 255, every one missing
 abbrev pub noneLive : List Bool
 noneLive = replicate 256 false
@@ -45,20 +50,10 @@ unfoldable pub someMissing : List Bool → List ℕ → Bool
 someMissing marks [] = false
 someMissing marks (j ∷ list) = not (isLive marks j) || someMissing marks list
 
--- one of the numbers j, j + 1, .., of which there are m, is live
-unfoldable pub someLive : List Bool → ℕ → ℕ → Bool
-someLive marks j zero = false
-someLive marks j (suc m) = isLive marks j || someLive marks (suc j) m
-
 -- a mark for 0 or above n is live
 unfoldable pub liveOutside : ℕ → List Bool → Bool
-liveOutside n marks = isLive marks 0 || someLive marks (n + 1) (255 - n)
-
--- the live ones of the numbers j, j + 1, .., of which there are m, rising
-unfoldable pub liveFrom : List Bool → ℕ → ℕ → List ℕ
-liveFrom marks j zero = []
-liveFrom marks j (suc m) = let later = liveFrom marks (suc j) m in cond (isLive marks j) (j ∷ later) later
+liveOutside n marks = isLive marks 0 || someFrom (isLive marks) (n + 1) (255 - n)
 
 -- the live nodes of 1 to n
 abbrev pub liveNodes : List Bool → ℕ → List ℕ
-liveNodes marks n = liveFrom marks 1 n
+liveNodes marks n = thoseFrom (isLive marks) 1 n

@@ -67,7 +67,7 @@ pub fn place_in(list: &[u8], j: usize) -> usize
 }
 
 // Every mark missing, and then those of a list set live.
-pub fn marks_of(list: &[u8]) -> [bool; 256]
+pub fn marks_of_list(list: &[u8]) -> [bool; 256]
     ensures { λ r. ⌜ r ≡ setLive noneLive (now (list .entry)) ⌝ }
 {
     let mut marks = [false; 256];

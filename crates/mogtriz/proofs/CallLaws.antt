@@ -7,14 +7,14 @@ use mathlib.Core.List.{List, [], _∷_}
 use Prim.Native.Nat.{ℕ}
 use Rattle.repair.specs.declared.Session.{Session}
 use Rattle.repair.specs.Session.{started}
-use Rattle.repair.specs.Calls.{Move, step, run, Call, sessionAfter, nodesAfter, sessionAfterAll, heldAfter}
+use Rattle.repair.specs.Calls.{Move, step, run, Call, sessionAfter, nodesAfter, sessionAfterAll, stateAfter}
 use Rattle.repair.specs.LeftOver.{lastSession}
 use Rattle.mogtriz.specs.declared.sessions.MarkedSession.{MarkedSession}
 use Rattle.mogtriz.specs.declared.repairs.StepAnswer.{StepAnswer}
 use Rattle.mogtriz.specs.declared.repairs.RepairsAnswer.{RepairsAnswer}
 use Rattle.mogtriz.specs.Sessions.{someAbove1, sessionForC, readOutC}
 use Rattle.mogtriz.specs.Repairs.{steppedC, nodesSteppedC, ranC, nodesRanC}
-use Rattle.mogtriz.specs.Calls.{sessionAfterC, nodesAfterC, sessionAfterAllC, lastSessionC, heldAfterC}
+use Rattle.mogtriz.specs.Calls.{sessionAfterC, nodesAfterC, sessionAfterAllC, lastSessionC, stateAfterC}
 use Rattle.mogtriz.proofs.Proved.{agree-claim}
 
 -- ---- from a session in C's form
@@ -37,13 +37,13 @@ all-agree s (call ∷ calls) =
 pub last-agrees : (family k L : ℕ) (list : List ℕ) (calls : List Call) → lastSessionC family k L list calls ≡ sessionForC (lastSession family k L list calls)
 last-agrees family k L list calls = all-agree (started family k L list .session) calls
 
-pub held-agrees : (s : Session) (nodes : List ℕ) (moves : List Move)
-    → heldAfterC (sessionForC s) nodes moves ≡ record { session = sessionForC (heldAfter s nodes moves .session); nodes = heldAfter s nodes moves .nodes }
-unfolding heldAfterC heldAfter
-held-agrees s nodes [] = refl
-held-agrees s nodes (move ∷ moves) =
-    ap₂ (λ (t : MarkedSession) (b : List ℕ). heldAfterC t b moves) (session-agrees s nodes move) (nodes-agree s nodes move)
-    ∙ held-agrees (sessionAfter s nodes move) (nodesAfter s nodes move) moves
+pub state-agrees : (s : Session) (nodes : List ℕ) (moves : List Move)
+    → stateAfterC (sessionForC s) nodes moves ≡ record { session = sessionForC (stateAfter s nodes moves .session); nodes = stateAfter s nodes moves .nodes }
+unfolding stateAfterC stateAfter
+state-agrees s nodes [] = refl
+state-agrees s nodes (move ∷ moves) =
+    ap₂ (λ (t : MarkedSession) (b : List ℕ). stateAfterC t b moves) (session-agrees s nodes move) (nodes-agree s nodes move)
+    ∙ state-agrees (sessionAfter s nodes move) (nodesAfter s nodes move) moves
 
 -- ---- with a byte above 1 every call is refused
 
@@ -58,12 +58,12 @@ module _ (s : MarkedSession) (above : someAbove1 (s .live) ≡ true) where
   nodes-stay nodes (step j a b) = rw above
   nodes-stay nodes run = rw above
 
-  pub held-stays : (nodes : List ℕ) (moves : List Move) → heldAfterC s nodes moves ≡ record { session = s; nodes = nodes }
-  unfolding heldAfterC
-  held-stays nodes [] = refl
-  held-stays nodes (move ∷ moves) =
-      ap₂ (λ (t : MarkedSession) (b : List ℕ). heldAfterC t b moves) (session-stays nodes move) (nodes-stay nodes move)
-      ∙ held-stays nodes moves
+  pub state-stays : (nodes : List ℕ) (moves : List Move) → stateAfterC s nodes moves ≡ record { session = s; nodes = nodes }
+  unfolding stateAfterC
+  state-stays nodes [] = refl
+  state-stays nodes (move ∷ moves) =
+      ap₂ (λ (t : MarkedSession) (b : List ℕ). stateAfterC t b moves) (session-stays nodes move) (nodes-stay nodes move)
+      ∙ state-stays nodes moves
 
   pub not-read : (nodes result : List ℕ) → readOutC s nodes result .refusal ≡ 13
   unfolding readOutC

@@ -15,10 +15,10 @@ use Rattle.repair.specs.declared.ReadOut.{ReadOut}
 use Rattle.repair.specs.Boxed.{readBox, nodesRead, written}
 use Rattle.repair.specs.ReadOut.{readOut}
 use Rattle.repair.specs.Repairs.{ran, nodesRan}
-use Rattle.repair.specs.Calls.{Move, Held, heldAfter}
+use Rattle.repair.specs.Calls.{Move, State, stateAfter}
 use Rattle.repair.specs.LeftOver.{lastSession}
 use Rattle.repair.specs.RepairClaims.{LiveAreOwn, OwnClaims}
-use Rattle.repair.specs.WholeWay.{OutWhereOpen, Way, startOf, nodesEncoded, boxAway, heldAt, WholeWay}
+use Rattle.repair.specs.WholeWay.{OutWhereOpen, Way, startOf, nodesEncoded, boxAway, stateAt, WholeWay}
 use Rattle.repair.proofs.Proved.{write-read-claim}
 use Rattle.repair.proofs.LeftOverProved.{demand-3}
 use Rattle.repair.proofs.RepairsProved.{own-claim}
@@ -29,11 +29,11 @@ use Rattle.mogtriz.specs.declared.sessions.ReadOutAnswer.{ReadOutAnswer}
 use Rattle.mogtriz.specs.declared.repairs.RepairsAnswer.{RepairsAnswer}
 use Rattle.mogtriz.specs.Sessions.{markOf, someAbove1, sessionForC, sessionOfC, readOutC, objectOutC}
 use Rattle.mogtriz.specs.Repairs.{ranC, nodesRanC}
-use Rattle.mogtriz.specs.Claims.{Demand3C, OwnC, OwnCClaim, boxAwayC, heldAtC, OnTheWayC, OutWhereOpenC, WholeWayCClaim}
+use Rattle.mogtriz.specs.Claims.{Demand3C, OwnC, OwnCClaim, boxAwayC, stateAtC, OnTheWayC, OutWhereOpenC, WholeWayCClaim}
 use Rattle.mogtriz.proofs.MarkLaws.{byte-at}
 use Rattle.mogtriz.proofs.Proved.{there-and-back, back-and-there, agree-claim}
 use Rattle.mogtriz.proofs.AnswerLaws.{read-out-kept}
-use Rattle.mogtriz.proofs.CallLaws.{last-agrees, held-agrees, held-stays, not-read}
+use Rattle.mogtriz.proofs.CallLaws.{last-agrees, state-agrees, state-stays, not-read}
 
 pub demand-3-c : Demand3C
 demand-3-c family k L list e calls M h =
@@ -53,8 +53,8 @@ demand-3-c family k L list e calls M h =
 own-agrees : (object : List ℕ) (s : Session) (nodes : List ℕ) (moves : List Move) → OwnClaims object s nodes moves → OwnC object (sessionForC s) nodes moves
 unfolding readOut
 own-agrees object s nodes moves o =
-    let after = heldAfter s nodes moves in
-    let held = held-agrees s nodes moves in
+    let after = stateAfter s nodes moves in
+    let held = state-agrees s nodes moves in
     record {
       live = rw held (subst (λ (t : Session). LiveAreOwn object t (after .nodes)) (sym (there-and-back (after .session))) (o .live));
       out = λ result. rw (held, agree-claim (after .session) .read-out (after .nodes) result, agree-claim (after .session) .read-out-object (after .nodes) result) (o .out result);
@@ -65,7 +65,7 @@ own-c-claim object s nodes marks size live moves = go (someAbove1 (s .live)) ref
   where
     go : (above : Bool) → someAbove1 (s .live) ≡ above → OwnC object s nodes moves
     go true e =
-        let held = held-stays s e nodes moves in
+        let held = state-stays s e nodes moves in
         record { live = rw held live; out = λ result a. absurd (omega (arith, rw (held, not-read s e nodes result) at a)) }
     go false e =
         subst (λ (t : MarkedSession). OwnC object t nodes moves) (back-and-there s e)
@@ -114,11 +114,11 @@ module _ (way : Way) (on : OnTheWayC way) (moves : List Move) where
   whole : WholeWay way moves
   whole = whole-way-claim way (record { encode = on .encode; start = on .start; write = writes; read = rw same at (on .read) }) moves
 
-  abbrev at-end : Held
-  at-end = heldAt way moves
+  abbrev at-end : State
+  at-end = stateAt way moves
 
-  held-is : heldAtC way moves ≡ record { session = sessionForC (at-end .session); nodes = at-end .nodes }
-  held-is = rw same (held-agrees (readBox (boxAway way) (way .other) .session) (nodesRead (boxAway way) (way .other)) moves)
+  state-is : stateAtC way moves ≡ record { session = sessionForC (at-end .session); nodes = at-end .nodes }
+  state-is = rw same (state-agrees (readBox (boxAway way) (way .other) .session) (nodesRead (boxAway way) (way .other)) moves)
 
   own-read : OwnC (way .object) (sessionForC (readBox (boxAway way) (way .other) .session)) (nodesRead (boxAway way) (way .other)) moves
   own-read = own-agrees (way .object) (readBox (boxAway way) (way .other) .session) (nodesRead (boxAway way) (way .other)) moves (record { live = whole .live; out = whole .out })
@@ -134,24 +134,24 @@ module _ (way : Way) (on : OnTheWayC way) (moves : List Move) where
 
 module _ (way : Way) (on : OnTheWayC way) (moves : List Move) where
   abbrev next : Session
-  next = ran (heldAt way moves .session) (heldAt way moves .nodes) .session
+  next = ran (stateAt way moves .session) (stateAt way moves .nodes) .session
 
   abbrev after : List ℕ
-  after = nodesRan (heldAt way moves .session) (heldAt way moves .nodes)
+  after = nodesRan (stateAt way moves .session) (stateAt way moves .nodes)
 
   again : (result : List ℕ)
-      → readOutC (ranC (sessionForC (heldAt way moves .session)) (heldAt way moves .nodes) .session) (nodesRanC (sessionForC (heldAt way moves .session)) (heldAt way moves .nodes)) result .refusal ≡ 0
-      → objectOutC (ranC (sessionForC (heldAt way moves .session)) (heldAt way moves .nodes) .session) (nodesRanC (sessionForC (heldAt way moves .session)) (heldAt way moves .nodes)) result ≡ way .object
+      → readOutC (ranC (sessionForC (stateAt way moves .session)) (stateAt way moves .nodes) .session) (nodesRanC (sessionForC (stateAt way moves .session)) (stateAt way moves .nodes)) result .refusal ≡ 0
+      → objectOutC (ranC (sessionForC (stateAt way moves .session)) (stateAt way moves .nodes) .session) (nodesRanC (sessionForC (stateAt way moves .session)) (stateAt way moves .nodes)) result ≡ way .object
   again result =
-      rw (run-is way on moves, agree-claim (heldAt way moves .session) .run-nodes (heldAt way moves .nodes), agree-claim next .read-out after result, agree-claim next .read-out-object after result)
+      rw (run-is way on moves, agree-claim (stateAt way moves .session) .run-nodes (stateAt way moves .nodes), agree-claim next .read-out after result, agree-claim next .read-out-object after result)
       (whole way on moves .again result)
 
 pub whole-way-c-claim : WholeWayCClaim
 whole-way-c-claim way on moves =
-    let held = held-is way on moves in
+    let held = state-is way on moves in
     record {
       own = rw (same way on moves) (own-read way on moves);
-      runs = rw (held, agree-claim (heldAt way moves .session) .run (heldAt way moves .nodes)) (whole way on moves .runs);
+      runs = rw (held, agree-claim (stateAt way moves .session) .run (stateAt way moves .nodes)) (whole way on moves .runs);
       back = λ result size M some. rw (held, same way on moves) (back way on moves result size M some);
       again = λ result. rw held (again way on moves result);
     }

@@ -31,11 +31,11 @@ lastSessionC family k L list calls = sessionAfterAllC (startedC (started family 
 -- ---- one nodes buffer, handed from call to call
 
 -- a session and its nodes buffer
-pub record HeldC : Type 0 where
+pub record StateC : Type 0 where
   pub session : MarkedSession
   pub nodes : List ℕ
 
 -- both after a list of steps and runs
-unfoldable pub heldAfterC : MarkedSession → List ℕ → List Move → HeldC
-heldAfterC s nodes [] = record { session = s; nodes = nodes }
-heldAfterC s nodes (move ∷ moves) = heldAfterC (sessionAfterC s nodes move) (nodesAfterC s nodes move) moves
+unfoldable pub stateAfterC : MarkedSession → List ℕ → List Move → StateC
+stateAfterC s nodes [] = record { session = s; nodes = nodes }
+stateAfterC s nodes (move ∷ moves) = stateAfterC (sessionAfterC s nodes move) (nodesAfterC s nodes move) moves

@@ -6,11 +6,12 @@ use mathlib.Core.List.{List, _∷_, _++_}
 use mathlib.Core.Logic.{_↔_, _⊎_}
 use Prim.Native.Nat.{ℕ, _*_, _≤_, _<_}
 use lib.ListN.{length, getD, take, drop, replicate}
+use Rattle.lists.specs.Lists.{isIn}
 use Rattle.families.specs.Families.{familyOf, IsNode, nodeCount, columnOf, nodeOf, areRelated}
 use Rattle.encoding.specs.Encode.{encodeAnswer}
 use Rattle.checks.specs.Checks.{firstMet}
 use Rattle.checks.specs.Claims.{InRange}
-use Rattle.boxes.specs.Box.{lengthIn, namesIn, bodyChecks, bodyOf}
+use Rattle.boxes.specs.Box.{blockLengthIn, namesIn, bodyChecks, bodyOf}
 use Rattle.planning.specs.Pairs.{NoPairLeft}
 use Rattle.leftover.specs.Open.{Open, OpenCount}
 use Rattle.repair.specs.declared.Session.{Session}
@@ -22,14 +23,13 @@ use Rattle.repair.specs.ReadOut.{readOut, objectOut}
 use Rattle.repair.specs.Step.{stepped, nodesStepped}
 use Rattle.repair.specs.Repairs.{planned, outPlanned, ran, nodesRan}
 use Rattle.repair.specs.Calls.{Move, run, Call, liveAfter}
-use Rattle.repair.specs.LeftOver.{isIn}
 use Rattle.repair.specs.RepairClaims.{LiveAreOwn}
 use Rattle.repair.specs.WholeWay.{LowestOpen, NoneOpen, Way, startOf, nodesEncoded}
 use Rattle.mogtriz.specs.declared.sessions.MarkedSession.{MarkedSession}
 use Rattle.mogtriz.specs.Sessions.{someAbove1, sessionForC, sessionOfC, startedC, writtenC, outWrittenC, readOutC, objectOutC, partIn}
 use Rattle.mogtriz.specs.Repairs.{steppedC, nodesSteppedC, plannedC, outPlannedC, ranC, nodesRanC}
 use Rattle.mogtriz.specs.Exports.{nodeCountOr0, columnOr0, nodeOr0, relatedOr0}
-use Rattle.mogtriz.specs.Calls.{lastSessionC, HeldC, heldAfterC}
+use Rattle.mogtriz.specs.Calls.{lastSessionC, StateC, stateAfterC}
 
 -- ---- a session handed to C and back
 
@@ -159,7 +159,7 @@ pub record PartOf (bytes : List ℕ) (j : ℕ) : Type 0 where
   pub refused : Refused (partIn bytes j .refusal) → partIn bytes j ≡ record { refusal = partIn bytes j .refusal; from = 0; length = 0 }
   -- the part of the box that it tells is the body, and that of a body that is not refused is L bytes
   pub part : take (partIn bytes j .length) (drop (partIn bytes j .from) bytes) ≡ bodyOf bytes j
-  pub size : partIn bytes j .refusal ≡ 0 → partIn bytes j .length ≡ lengthIn bytes
+  pub size : partIn bytes j .refusal ≡ 0 → partIn bytes j .length ≡ blockLengthIn bytes
 
 abbrev pub PartClaim : Type 0
 PartClaim = (bytes : List ℕ) (j : ℕ) → PartOf bytes j
@@ -210,9 +210,9 @@ Demand3C = (family k L : ℕ) (list : List ℕ) → startedC (started family k L
 -- once session and buffer have gone through a list of steps and runs, every live block is the object's, and what mogtriz_read_out
 -- leaves, where it is accepted, is the object
 pub record OwnC (object : List ℕ) (s : MarkedSession) (nodes : List ℕ) (moves : List Move) : Type 0 where
-  pub live : LiveAreOwn object (sessionOfC (heldAfterC s nodes moves .session)) (heldAfterC s nodes moves .nodes)
-  pub out : (result : List ℕ) → readOutC (heldAfterC s nodes moves .session) (heldAfterC s nodes moves .nodes) result .refusal ≡ 0
-      → objectOutC (heldAfterC s nodes moves .session) (heldAfterC s nodes moves .nodes) result ≡ object
+  pub live : LiveAreOwn object (sessionOfC (stateAfterC s nodes moves .session)) (stateAfterC s nodes moves .nodes)
+  pub out : (result : List ℕ) → readOutC (stateAfterC s nodes moves .session) (stateAfterC s nodes moves .nodes) result .refusal ≡ 0
+      → objectOutC (stateAfterC s nodes moves .session) (stateAfterC s nodes moves .nodes) result ≡ object
 
 -- a session with a byte above 1 is refused by every call, so the bytes may be any
 abbrev pub OwnCClaim : Type 0
@@ -237,8 +237,8 @@ pub record OnTheWayC (way : Way) : Type 0 where
   pub read : startedC (readBox (boxAwayC way) (way .other)) .refusal ≡ 0
 
 -- session and buffer once the box is read and a list of mogtriz_step and mogtriz_run made, refused ones included
-abbrev pub heldAtC : Way → List Move → HeldC
-heldAtC way moves = heldAfterC (startedC (readBox (boxAwayC way) (way .other)) .session) (nodesRead (boxAwayC way) (way .other)) moves
+abbrev pub stateAtC : Way → List Move → StateC
+stateAtC way moves = stateAfterC (startedC (readBox (boxAwayC way) (way .other)) .session) (nodesRead (boxAwayC way) (way .other)) moves
 
 -- mogtriz_read_out is accepted exactly where no data block's node is open, and turned away with 14 and block i exactly where i is the
 -- lowest whose node is
@@ -251,14 +251,14 @@ pub record WholeWayC (way : Way) (moves : List Move) : Type 0 where
   -- every live block is the object's, and what mogtriz_read_out leaves, where it is accepted, is the object
   pub own : OwnC (way .object) (startedC (readBox (boxAwayC way) (way .other)) .session) (nodesRead (boxAwayC way) (way .other)) moves
   -- after one more mogtriz_run, which is accepted, that is exactly where no data block's node is open
-  pub runs : ranC (heldAtC way moves .session) (heldAtC way moves .nodes) .refusal ≡ 0
+  pub runs : ranC (stateAtC way moves .session) (stateAtC way moves .nodes) .refusal ≡ 0
   pub back : (result : List ℕ) → length result ≡ way .k * way .len → (M : ℕ) → 1 ≤ M
-      → OutWhereOpenC (ranC (heldAtC way moves .session) (heldAtC way moves .nodes) .session) (nodesRanC (heldAtC way moves .session) (heldAtC way moves .nodes)) result
+      → OutWhereOpenC (ranC (stateAtC way moves .session) (stateAtC way moves .nodes) .session) (nodesRanC (stateAtC way moves .session) (stateAtC way moves .nodes)) result
       (namesIn (boxAwayC way)) M
   -- and then it leaves the object
   pub again : (result : List ℕ)
-      → readOutC (ranC (heldAtC way moves .session) (heldAtC way moves .nodes) .session) (nodesRanC (heldAtC way moves .session) (heldAtC way moves .nodes)) result .refusal ≡ 0
-      → objectOutC (ranC (heldAtC way moves .session) (heldAtC way moves .nodes) .session) (nodesRanC (heldAtC way moves .session) (heldAtC way moves .nodes)) result ≡ way .object
+      → readOutC (ranC (stateAtC way moves .session) (stateAtC way moves .nodes) .session) (nodesRanC (stateAtC way moves .session) (stateAtC way moves .nodes)) result .refusal ≡ 0
+      → objectOutC (ranC (stateAtC way moves .session) (stateAtC way moves .nodes) .session) (nodesRanC (stateAtC way moves .session) (stateAtC way moves .nodes)) result ≡ way .object
 
 -- for every family, k, L and object, every start and list that are accepted, every buffer, and every list of calls
 abbrev pub WholeWayCClaim : Type 0

@@ -4,7 +4,7 @@ use mathlib.Core.Bool.{Bool, false, cond, _||_}
 use mathlib.Core.List.{List, [], _∷_, map}
 use lib.Dec.{eqb, ltb}
 use Rattle.checks.specs.Checks.{firstMet}
-use Rattle.boxes.specs.Box.{lengthIn, bodyChecks, bodyStart}
+use Rattle.boxes.specs.Box.{blockLengthIn, bodyChecks, bodyStart}
 use Rattle.repair.specs.declared.Session.{Session}
 use Rattle.repair.specs.declared.Started.{Started}
 use Rattle.repair.specs.Boxed.{written, outWritten}
@@ -69,5 +69,5 @@ objectOutC s nodes object = cond (someAbove1 (s .live)) object (objectOut (sessi
 unfoldable pub partIn : List ℕ → ℕ → Part
 partIn bytes j =
     cond (eqb (firstMet (bodyChecks bytes j)) 0)
-    (record { refusal = 0; from = bodyStart bytes j; length = lengthIn bytes })
+    (record { refusal = 0; from = bodyStart bytes j; length = blockLengthIn bytes })
     (record { refusal = firstMet (bodyChecks bytes j); from = 0; length = 0 })

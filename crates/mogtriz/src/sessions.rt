@@ -70,7 +70,7 @@ fn bytes_of(marks: [bool; 256]) -> [u8; 256]
 }
 
 // A mark for each byte: 1 live, any other missing.
-fn marks_of(bytes: [u8; 256]) -> [bool; 256]
+fn marks_of_bytes(bytes: [u8; 256]) -> [bool; 256]
     ensures { λ r. ⌜ r ≡ marksOf bytes ⌝ }
 {
     let mut marks = [false; 256];
@@ -102,7 +102,7 @@ impl MarkedSession {
         ensures { λ r. ⌜ r ≡ sessionOfC self ⌝ }
     {
         let bytes = self.live;
-        let live = marks_of(bytes);
+        let live = marks_of_bytes(bytes);
         Session {
             family: self.family,
             k: self.k,

@@ -7,7 +7,8 @@ use Prim.Native.Nat.{ℕ, suc, _+_, _-_, _*_, _≤_, _<_}
 use native.Mathlib.Omega.{arith}
 use lib.ListN.{length, getD, drop, set}
 use lib.Seq.{drop-drop, getD-drop}
-use Rattle.blocks.specs.Blocks.{xorBytes, blockOf, InBuffer}
+use Rattle.blocks.specs.Blocks.{xorBytes, blockOf}
+use Rattle.blocks.specs.Inner.{InBuffer}
 use Rattle.families.specs.declared.Family.{Family}
 use Rattle.families.specs.Families.{KInRange, IsNode, nodeCount}
 use Rattle.families.proofs.Laws.{related-differ, related-turn}
@@ -16,7 +17,8 @@ use Rattle.blocks.proofs.PartLaws.{length-blockOf}
 use Rattle.blocks.proofs.XorBytes.{length-xorBytes}
 use Rattle.planning.specs.Plan.{Step, stepBytes}
 use Rattle.planning.specs.Claims.{CanMake, CanMakeAll}
-use Rattle.planning.specs.Made.{mended, nodesMade, stepsIn, StepIn, AllIn}
+use Rattle.planning.specs.Made.{mended, nodesMade, stepsIn}
+use Rattle.planning.specs.Inner.{StepIn, AllIn}
 
 in-kept : {L j : ℕ} {nodes : List ℕ} (other : List ℕ) → length other ≡ length nodes → InBuffer L nodes j → InBuffer L other j
 in-kept other e h = record { first = h .first; last = omega (arith, h .last) }

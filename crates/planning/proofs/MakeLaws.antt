@@ -10,16 +10,18 @@ use borrow.Author.Tests.{ltb-true, not-true}
 use lib.Dec.{ltb}
 use lib.ListN.{length, set, length-set}
 use lib.Seq.{getD-set-same, getD-set-other}
+use Rattle.base.specs.Ranges.{countFrom}
+use Rattle.base.proofs.RangeLaws.{others-count}
 use Rattle.base.proofs.Tests.{and-left, and-right}
 use Rattle.families.specs.declared.Family.{Family}
 use Rattle.families.specs.Families.{KInRange, IsNode, nodeCount}
 use Rattle.families.proofs.Laws.{few}
-use Rattle.lists.specs.Lists.{isLive, setLive, liveFrom, liveNodes}
+use Rattle.lists.specs.Lists.{isLive, setLive, liveNodes}
 use Rattle.lists.proofs.Laws.{length-setLive}
 use Rattle.lists.proofs.MarkLaws.{set-keeps}
 use Rattle.planning.specs.Claims.{CanMake, CanMakeAll}
 use Rattle.planning.specs.Pairs.{smallerNode}
-use Rattle.planning.specs.Plan.{Step, isRepaired, stepOf, stepsFrom, roundSteps, repairedNodes, marksAfter, countFrom, nodesLeft}
+use Rattle.planning.specs.Plan.{Step, isRepaired, stepOf, stepsFrom, roundSteps, repairedNodes, marksAfter, nodesLeft}
 use Rattle.planning.proofs.PairLaws.{PairOf, pair-of}
 
 -- ---- the marks after steps
@@ -93,25 +95,9 @@ round-makes f k range marks size r =
 
 -- ---- nodes left
 
--- of m numbers from j on, as many are missing as are not live
-left-from : (marks : List Bool) (j m : ℕ) → countFrom (λ i. not (isLive marks i)) j m + length (liveFrom marks j m) ≡ m
-unfolding countFrom liveFrom
-left-from marks j zero = refl
-left-from marks j (suc m) = go (isLive marks j) (left-from marks (suc j) m)
-  where
-    later : ℕ
-    later = countFrom (λ i. not (isLive marks i)) (suc j) m
-
-    live : List ℕ
-    live = liveFrom marks (suc j) m
-
-    go : (b : Bool) → later + length live ≡ m → cond (not b) (suc later) later + length (cond b (j ∷ live) live) ≡ suc m
-    go true e = omega arith
-    go false e = omega arith
-
 pub left-is : (marks : List Bool) (n : ℕ) → nodesLeft marks n ≡ n - length (liveNodes marks n)
 unfolding nodesLeft
-left-is marks n = omega (arith, left-from marks 1 n)
+left-is marks n = omega (arith, others-count (isLive marks) 1 n)
 
 pub left-few : (marks : List Bool) (n : ℕ) → nodesLeft marks n ≤ n
 left-few marks n = omega (arith, left-is marks n)

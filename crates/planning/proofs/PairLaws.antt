@@ -14,17 +14,19 @@ use lib.Bits.{bitXor}
 use lib.Dec.{ltb}
 use lib.ListN.{length, getD, drop, drop-of-length-le}
 use lib.Seq.{drop-cons}
+use Rattle.base.specs.Ranges.{firstFrom, thoseFrom}
 use Rattle.base.proofs.Tests.{and-left, and-right, and-both, is-false}
 use Rattle.base.proofs.Xor.{xor-third, xor-third-of}
 use Rattle.families.specs.declared.Family.{Family}
-use Rattle.families.specs.Families.{KInRange, IsNode, nodeCount, columnOf, nodeOf, areRelated, firstFrom, columnTable}
-use Rattle.families.proofs.First.{first-of, first-none, first-least, found}
+use Rattle.families.specs.Families.{KInRange, IsNode, nodeCount, columnOf, nodeOf, areRelated}
+use Rattle.families.specs.Inner.{columnTable}
+use Rattle.base.proofs.First.{first-of, first-none, first-least, found}
 use Rattle.families.proofs.Laws.{few, node-is, node-of, related-differ, related-turn, related-swap}
 use Rattle.families.proofs.TableLaws.{table-at}
-use Rattle.lists.specs.Lists.{isLive, liveFrom, liveNodes}
+use Rattle.lists.specs.Lists.{isLive, liveNodes}
 use Rattle.planning.specs.Pairs.{largerNode, smallerNode}
 use Rattle.planning.specs.Plan.{isRepaired}
-use Rattle.planning.specs.Search.{thirdNode, livePartner, nextNode}
+use Rattle.planning.specs.Inner.{thirdNode, livePartner, nextNode}
 
 -- ---- the node related to two others
 
@@ -140,16 +142,16 @@ module _ (test : ℕ → Bool) (list : List ℕ) (i : ℕ) where
   first-end h = rw (drop-of-length-le list h)
 
 -- the live numbers alone need be asked
-pub first-live : (test : ℕ → Bool) (marks : List Bool) (j m : ℕ) → firstFrom (λ a. isLive marks a && test a) j m ≡ firstIn test (liveFrom marks j m)
-unfolding firstFrom firstIn liveFrom
+pub first-live : (test : ℕ → Bool) (marks : List Bool) (j m : ℕ) → firstFrom (λ a. isLive marks a && test a) j m ≡ firstIn test (thoseFrom (isLive marks) j m)
+unfolding firstFrom firstIn thoseFrom
 first-live test marks j zero = refl
 first-live test marks j (suc m) = go (isLive marks j) (first-live test marks (suc j) m)
   where
     later : ℕ
     later = firstFrom (λ a. isLive marks a && test a) (suc j) m
 
-    go : (b : Bool) → later ≡ firstIn test (liveFrom marks (suc j) m)
-        → cond (b && test j) j later ≡ firstIn test (cond b (j ∷ liveFrom marks (suc j) m) (liveFrom marks (suc j) m))
+    go : (b : Bool) → later ≡ firstIn test (thoseFrom (isLive marks) (suc j) m)
+        → cond (b && test j) j later ≡ firstIn test (cond b (j ∷ thoseFrom (isLive marks) (suc j) m) (thoseFrom (isLive marks) (suc j) m))
     go true e = ap (cond (test j) j) e
     go false e = e
 

@@ -13,7 +13,7 @@ use lib.ListN.{length}
 use Rattle.base.proofs.Tests.{and-both, not-both}
 use Rattle.families.specs.declared.Family.{Family}
 use Rattle.families.specs.Families.{KInRange, IsNode, nodeCount, areRelated}
-use Rattle.families.proofs.First.{first-least}
+use Rattle.base.proofs.First.{first-least}
 use Rattle.families.proofs.Laws.{related-differ, related-swap}
 use Rattle.lists.specs.Lists.{isLive, setLive}
 use Rattle.planning.specs.Claims.{CanMakeAll}

@@ -15,7 +15,7 @@ use Rattle.families.specs.Families.{KInRange, nodeCount}
 use Rattle.lists.specs.Lists.{liveNodes, setLive}
 use Rattle.planning.specs.Claims.{CanMakeAll}
 use Rattle.planning.specs.Plan.{Step, isRepaired, stepOf, stepsFrom, roundSteps, marksAfter, roundsFrom, planOf, stepBytes, lastRound, nodesLeft}
-use Rattle.planning.specs.Planned.{plannedOf}
+use Rattle.planning.specs.Inner.{plannedOf}
 use Rattle.planning.proofs.MakeLaws.{length-marksAfter, can-make-append, round-makes, make-counts, left-few, left-is}
 use Rattle.planning.proofs.PlanLaws.{rounds-end, rounds-more}
 use Rattle.planning.proofs.RoundLaws.{bytes-append, length-bytes, marks-append}

@@ -11,17 +11,18 @@ use borrow.Author.Tests.{ltb-true, ne-eqb}
 use borrow.Rule.Slice.PartMut.{putMid, same-len-mid}
 use lib.Dec.{ltb}
 use lib.ListN.{length, set, length-append, take-append-drop}
+use Rattle.base.specs.Ranges.{firstFrom, thoseFrom}
 use Rattle.base.proofs.Tests.{and-right}
 use Rattle.blocks.proofs.PartLaws.{length-mid, put-beside}
 use Rattle.families.specs.declared.Family.{Family}
-use Rattle.families.specs.Families.{KInRange, nodeCount, firstFrom}
-use Rattle.families.proofs.First.{found}
-use Rattle.lists.specs.Lists.{isLive, setLive, liveFrom}
+use Rattle.families.specs.Families.{KInRange, nodeCount}
+use Rattle.base.proofs.First.{found}
+use Rattle.lists.specs.Lists.{isLive, setLive}
 use Rattle.lists.proofs.Laws.{live-few}
 use Rattle.lists.proofs.MarkLaws.{live-append}
 use Rattle.planning.specs.Pairs.{smallerNode, largerNode}
 use Rattle.planning.specs.Plan.{Step, isRepaired, stepOf, stepsFrom, roundSteps, repairedNodes, marksAfter, stepBytes}
-use Rattle.planning.specs.Search.{nextNode, repairOf}
+use Rattle.planning.specs.Inner.{nextNode, repairOf}
 use Rattle.planning.specs.declared.Repair.{Repair}
 use Rattle.planning.proofs.PairLaws.{pair-of, live-kept}
 
@@ -42,13 +43,13 @@ marks-append marks s t = ap (setLive marks) (map-append (λ (step : Step). step 
 
 -- ---- a round where every node is live
 
-pub all-live : (f : Family) (k : ℕ) (marks : List Bool) (r j m : ℕ) → m ≤ length (liveFrom marks j m) → stepsFrom f k marks r j m ≡ []
-unfolding stepsFrom liveFrom
+pub all-live : (f : Family) (k : ℕ) (marks : List Bool) (r j m : ℕ) → m ≤ length (thoseFrom (isLive marks) j m) → stepsFrom f k marks r j m ≡ []
+unfolding stepsFrom thoseFrom
 all-live f k marks r j zero h = refl
 all-live f k marks r j (suc m) h = go (isLive marks j) refl h (λ g. all-live f k marks r (suc j) m g)
   where
     rest : List ℕ
-    rest = liveFrom marks (suc j) m
+    rest = thoseFrom (isLive marks) (suc j) m
 
     go : (b : Bool) → isLive marks j ≡ b → suc m ≤ length (cond b (j ∷ rest) rest) → (m ≤ length rest → stepsFrom f k marks r (suc j) m ≡ []) → stepsFrom f k marks r j (suc m) ≡ []
     go true e g later = rw (live-kept f k marks j e) (later (omega arith))

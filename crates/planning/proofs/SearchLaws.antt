@@ -14,7 +14,7 @@ use Rattle.families.specs.Families.{IsNode, nodeCount}
 use Rattle.lists.specs.Lists.{isLive, liveNodes}
 use Rattle.lists.proofs.Laws.{outside-none, live-nodes-inside}
 use Rattle.planning.specs.Pairs.{largerNode, smallerNode}
-use Rattle.planning.specs.Search.{RoundBegins, livePartner, worthTrying, nextNode, repairOf}
+use Rattle.planning.specs.Inner.{RoundBegins, livePartner, worthTrying, nextNode, repairOf}
 use Rattle.planning.specs.Plan.{isRepaired}
 use Rattle.planning.proofs.WorthLaws.{worth-repaired}
 use Rattle.planning.proofs.PairLaws.{firstIn, first-step, first-end, hasPartner, smaller-first, partner-is, pair-of, next-skip, next-is, next-end, live-kept, none-kept, pair-repairs}

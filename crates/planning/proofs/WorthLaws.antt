@@ -13,61 +13,62 @@ use lib.Bits.{bitXor}
 use lib.Dec.{ltb}
 use lib.ListN.{length, getD, set, drop, replicate, length-set, getD-replicate, drop-of-length-le}
 use lib.Seq.{drop-cons, getD-set-same}
+use Rattle.base.specs.Ranges.{thoseFrom}
 use Rattle.base.proofs.Tests.{and-right}
 use Rattle.base.proofs.Xor.{xor-third}
 use Rattle.families.specs.declared.Family.{Family}
 use Rattle.families.specs.Families.{KInRange, IsNode, nodeCount, columnOf, areRelated}
 use Rattle.families.proofs.Laws.{few, node-is}
-use Rattle.lists.specs.Lists.{isLive, noneLive, setLive, liveFrom, liveNodes}
+use Rattle.lists.specs.Lists.{isLive, noneLive, setLive, liveNodes}
 use Rattle.lists.proofs.Laws.{length-setLive}
 use Rattle.lists.proofs.MarkLaws.{live-keeps, live-append}
 use Rattle.planning.specs.Pairs.{smallerNode, largerNode}
 use Rattle.planning.specs.Plan.{isRepaired}
-use Rattle.planning.specs.Search.{thirdNode, thirds, worthTrying}
+use Rattle.planning.specs.Inner.{thirdNode, thirds, worthTrying}
 use Rattle.planning.proofs.PairLaws.{PairOf, pair-of}
 
 -- ---- a live node's number, and what is related to two of them, among those that are set
 
 module _ (marks : List Bool) where
   -- the live nodes from j on, by whether j is live
-  from : (P : List ℕ → Type 0) (j m : ℕ) → (isLive marks j ≡ true → P (j ∷ liveFrom marks (suc j) m)) → (isLive marks j ≡ false → P (liveFrom marks (suc j) m)) → P (liveFrom marks j (suc m))
-  unfolding liveFrom
+  from : (P : List ℕ → Type 0) (j m : ℕ) → (isLive marks j ≡ true → P (j ∷ thoseFrom (isLive marks) (suc j) m)) → (isLive marks j ≡ false → P (thoseFrom (isLive marks) (suc j) m)) → P (thoseFrom (isLive marks) j (suc m))
+  unfolding thoseFrom
   from P j m y n = go (isLive marks j) y n
     where
-      go : (b : Bool) → (b ≡ true → P (j ∷ liveFrom marks (suc j) m)) → (b ≡ false → P (liveFrom marks (suc j) m)) → P (cond b (j ∷ liveFrom marks (suc j) m) (liveFrom marks (suc j) m))
+      go : (b : Bool) → (b ≡ true → P (j ∷ thoseFrom (isLive marks) (suc j) m)) → (b ≡ false → P (thoseFrom (isLive marks) (suc j) m)) → P (cond b (j ∷ thoseFrom (isLive marks) (suc j) m) (thoseFrom (isLive marks) (suc j) m))
       go true y n = y refl
       go false y n = n refl
 
-  first : (P : List ℕ → Type 0) (j m : ℕ) → isLive marks j ≡ true → P (j ∷ liveFrom marks (suc j) m) → P (liveFrom marks j (suc m))
-  unfolding liveFrom
+  first : (P : List ℕ → Type 0) (j m : ℕ) → isLive marks j ≡ true → P (j ∷ thoseFrom (isLive marks) (suc j) m) → P (thoseFrom (isLive marks) j (suc m))
+  unfolding thoseFrom
   first P j m v p = rw v p
 
-  one-set : (g : ℕ → ℕ) (j m b : ℕ) (set : List Bool) → g b < length set → j ≤ b → b < j + m → isLive marks b ≡ true → isLive (setLive set (map g (liveFrom marks j m))) (g b) ≡ true
+  one-set : (g : ℕ → ℕ) (j m b : ℕ) (set : List Bool) → g b < length set → j ≤ b → b < j + m → isLive marks b ≡ true → isLive (setLive set (map g (thoseFrom (isLive marks) j m))) (g b) ≡ true
   unfolding setLive
   one-set g j zero b s h l u v = absurd (omega arith)
   one-set g j (suc m) b s h l u v =
       ⊎-elim here (later (λ t n k. one-set g (suc j) m b t (omega (arith, n)) k (omega arith) v)) (eq-or-lt-of-le l)
     where
-      here : j ≡ b → isLive (setLive s (map g (liveFrom marks j (suc m)))) (g b) ≡ true
+      here : j ≡ b → isLive (setLive s (map g (thoseFrom (isLive marks) j (suc m)))) (g b) ≡ true
       here e =
           rw e (first (λ list. isLive (setLive s (map g list)) (g b) ≡ true) b m v
-          (live-keeps (set s (g b) true) (map g (liveFrom marks (suc b) m)) (g b) (getD-set-same s (g b) true false h)))
+          (live-keeps (set s (g b) true) (map g (thoseFrom (isLive marks) (suc b) m)) (g b) (getD-set-same s (g b) true false h)))
 
-      later : ((t : List Bool) → length t ≡ length s → j < b → isLive (setLive t (map g (liveFrom marks (suc j) m))) (g b) ≡ true)
-          → j < b → isLive (setLive s (map g (liveFrom marks j (suc m)))) (g b) ≡ true
+      later : ((t : List Bool) → length t ≡ length s → j < b → isLive (setLive t (map g (thoseFrom (isLive marks) (suc j) m))) (g b) ≡ true)
+          → j < b → isLive (setLive s (map g (thoseFrom (isLive marks) j (suc m)))) (g b) ≡ true
       later next k = from (λ list. isLive (setLive s (map g list)) (g b) ≡ true) j m (λ t. next (set s (g j) true) (length-set s (g j) true) k) (λ t. next s refl k)
 
   module _ (f : Family) (k : ℕ) (a b : ℕ) (va : isLive marks a ≡ true) (vb : isLive marks b ≡ true) (o : a < b) where
-    third-set : (j m : ℕ) (set : List Bool) → thirdNode f k a b < length set → j ≤ a → b < j + m → isLive (setLive set (thirds f k (liveFrom marks j m))) (thirdNode f k a b) ≡ true
+    third-set : (j m : ℕ) (set : List Bool) → thirdNode f k a b < length set → j ≤ a → b < j + m → isLive (setLive set (thirds f k (thoseFrom (isLive marks) j m))) (thirdNode f k a b) ≡ true
     unfolding thirds
     third-set j zero s h l u = absurd (omega arith)
     third-set j (suc m) s h l u =
         ⊎-elim here (later (λ t n g. third-set (suc j) m t (omega (arith, n)) g (omega arith))) (eq-or-lt-of-le l)
       where
         rest : ℕ → List ℕ
-        rest x = liveFrom marks (suc x) m
+        rest x = thoseFrom (isLive marks) (suc x) m
 
-        here : j ≡ a → isLive (setLive s (thirds f k (liveFrom marks j (suc m)))) (thirdNode f k a b) ≡ true
+        here : j ≡ a → isLive (setLive s (thirds f k (thoseFrom (isLive marks) j (suc m)))) (thirdNode f k a b) ≡ true
         here e =
             rw e (first (λ list. isLive (setLive s (thirds f k list)) (thirdNode f k a b) ≡ true) a m va
             (rw (live-append s (map (thirdNode f k a) (rest a)) (thirds f k (rest a)))
@@ -75,7 +76,7 @@ module _ (marks : List Bool) where
             (one-set (thirdNode f k a) (suc a) m b s h o (omega arith) vb))))
 
         later : ((t : List Bool) → length t ≡ length s → j < a → isLive (setLive t (thirds f k (rest j))) (thirdNode f k a b) ≡ true)
-            → j < a → isLive (setLive s (thirds f k (liveFrom marks j (suc m)))) (thirdNode f k a b) ≡ true
+            → j < a → isLive (setLive s (thirds f k (thoseFrom (isLive marks) j (suc m)))) (thirdNode f k a b) ≡ true
         later next g =
             from (λ list. isLive (setLive s (thirds f k list)) (thirdNode f k a b) ≡ true) j m
             (λ t. rw (live-append s (map (thirdNode f k j) (rest j)) (thirds f k (rest j))) (next (setLive s (map (thirdNode f k j) (rest j))) (length-setLive s (map (thirdNode f k j) (rest j))) g))

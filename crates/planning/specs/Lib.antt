@@ -1,6 +1,5 @@
 pub mod Pairs
 pub mod Plan
-pub mod Search
-pub mod Planned
 pub mod Made
 pub mod Claims
+pub mod Inner

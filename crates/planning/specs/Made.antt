@@ -1,9 +1,8 @@
 -- Steps made one after the other on a nodes buffer (document 01, "Run").
-use mathlib.Core.Path.{_≡_}
 use mathlib.Core.List.{List, [], _∷_}
 use Prim.Native.Nat.{ℕ, zero, suc}
 use lib.ListN.{getD, drop}
-use Rattle.blocks.specs.Blocks.{xorBytes, blockOf, withBlock, InBuffer}
+use Rattle.blocks.specs.Blocks.{xorBytes, blockOf, withBlock}
 use Rattle.planning.specs.Plan.{Step}
 
 -- node j's block becomes the XOR of the blocks of a and b
@@ -20,16 +19,3 @@ unfoldable pub stepsIn : List ℕ → ℕ → List Step
 stepsIn bytes zero = []
 stepsIn bytes (suc m) =
     record { round = getD bytes 0 0; node = getD bytes 1 0; smaller = getD bytes 2 0; larger = getD bytes 3 0 } ∷ stepsIn (drop 4 bytes) m
-
--- a step whose three blocks lie in the nodes buffer, the one to repair apart from the two others
-pub record StepIn (L : ℕ) (nodes : List ℕ) (step : Step) : Type 0 where
-  pub node : InBuffer L nodes (step .node)
-  pub smaller : InBuffer L nodes (step .smaller)
-  pub larger : InBuffer L nodes (step .larger)
-  pub not-smaller : step .node ≡ step .smaller → ⊥
-  pub not-larger : step .node ≡ step .larger → ⊥
-
--- every one of the steps is such a one
-abbrev pub AllIn : ℕ → List ℕ → List Step → Type 0
-AllIn L nodes [] = Unit {0}
-AllIn L nodes (step ∷ steps) = StepIn L nodes step × AllIn L nodes steps

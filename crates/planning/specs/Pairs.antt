@@ -4,8 +4,9 @@ use mathlib.Core.Bool.{Bool, true, false, _&&_}
 use mathlib.Core.List.{List}
 use Prim.Native.Nat.{ℕ, suc, _-_}
 use lib.Dec.{ltb}
+use Rattle.base.specs.Ranges.{firstFrom}
 use Rattle.families.specs.declared.Family.{Family}
-use Rattle.families.specs.Families.{IsNode, nodeCount, areRelated, firstFrom}
+use Rattle.families.specs.Families.{IsNode, nodeCount, areRelated}
 use Rattle.lists.specs.Lists.{isLive}
 
 -- the live node above a that is related to a and j; 0 where there is none

@@ -3,6 +3,7 @@ use mathlib.Core.Bool.{Bool, cond, not, _&&_}
 use mathlib.Core.List.{List, [], _∷_, _++_, map}
 use Prim.Native.Nat.{ℕ, zero, suc}
 use lib.Dec.{ltb}
+use Rattle.base.specs.Ranges.{countFrom}
 use Rattle.families.specs.declared.Family.{Family}
 use Rattle.families.specs.Families.{nodeCount}
 use Rattle.lists.specs.Lists.{isLive, setLive}
@@ -67,11 +68,6 @@ unfoldable pub lastRound : List Step → ℕ
 lastRound [] = 0
 lastRound (step ∷ []) = step .round
 lastRound (step ∷ next ∷ steps) = lastRound (next ∷ steps)
-
--- how many of the numbers j, j + 1, .., of which there are m, pass the test
-unfoldable pub countFrom : (ℕ → Bool) → ℕ → ℕ → ℕ
-countFrom test j zero = 0
-countFrom test j (suc m) = let later = countFrom test (suc j) m in cond (test j) (suc later) later
 
 -- nodes left: how many of 1 to n are missing
 unfoldable pub nodesLeft : List Bool → ℕ → ℕ

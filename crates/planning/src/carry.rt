@@ -3,7 +3,8 @@ use base::wide;
 ghost use mathlib.Core.Path.{_≡_};
 ghost use Prim.Native.Nat.{_*_, _≤_};
 ghost use lib.ListN.{length};
-ghost use Rattle.planning.specs.Made.{AllIn, stepsIn, nodesMade};
+ghost use Rattle.planning.specs.Made.{stepsIn, nodesMade};
+ghost use Rattle.planning.specs.Inner.{AllIn};
 
 // The first `count` steps of a plan, four bytes each, made one after the other.
 pub fn carry_out(len: usize, steps: &[u8], count: usize, nodes: &mut [u8])

@@ -9,9 +9,10 @@ ghost use mathlib.Core.List.{[], _∷_, _++_};
 ghost use Prim.Native.Nat.{_+_, _*_, _≤_, _<_};
 ghost use lib.ListN.{length, drop};
 ghost use borrow.Rule.Slice.PartMut.{putMid};
-ghost use Rattle.families.specs.Families.{KInRange, nodeCount, columnTable};
+ghost use Rattle.families.specs.Families.{KInRange, nodeCount};
+ghost use Rattle.families.specs.Inner.{columnTable};
 ghost use Rattle.planning.specs.Plan.{roundSteps, marksAfter, planOf, stepBytes};
-ghost use Rattle.planning.specs.Planned.{plannedOf};
+ghost use Rattle.planning.specs.Inner.{plannedOf};
 
 // A step as its four bytes.
 fn put_step(out: &mut [u8], round: usize, repair: Repair)

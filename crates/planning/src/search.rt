@@ -4,8 +4,9 @@ use base::wide;
 use families::Family;
 ghost use mathlib.Core.Path.{_≡_};
 ghost use Prim.Native.Nat.{_≤_};
-ghost use Rattle.families.specs.Families.{KInRange, IsNode, nodeCount, columnTable};
-ghost use Rattle.planning.specs.Search.{RoundBegins, livePartner, worthTrying, nextNode, repairOf};
+ghost use Rattle.families.specs.Families.{KInRange, IsNode, nodeCount};
+ghost use Rattle.families.specs.Inner.{columnTable};
+ghost use Rattle.planning.specs.Inner.{RoundBegins, livePartner, worthTrying, nextNode, repairOf};
 
 struct Pair {
     smaller: usize,

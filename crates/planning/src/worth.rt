@@ -7,9 +7,10 @@ ghost use mathlib.Core.Bool.{false};
 ghost use mathlib.Core.List.{map};
 ghost use Prim.Native.Nat.{_+_, _<_};
 ghost use lib.ListN.{length, getD, drop};
-ghost use Rattle.families.specs.Families.{KInRange, nodeCount, columnTable};
+ghost use Rattle.families.specs.Families.{KInRange, nodeCount};
+ghost use Rattle.families.specs.Inner.{columnTable};
 ghost use Rattle.lists.specs.Lists.{someOutside, setLive};
-ghost use Rattle.planning.specs.Search.{thirdNode, worthTrying};
+ghost use Rattle.planning.specs.Inner.{thirdNode, worthTrying};
 
 // The nodes related to the live node at place i and one after it are set.
 fn set_thirds(

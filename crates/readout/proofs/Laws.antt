@@ -10,7 +10,8 @@ use lib.Seq.{take-add, take-all}
 use Rattle.families.specs.declared.Family.{Family}
 use Rattle.families.specs.Families.{KInRange, IsNode, columnOf}
 use Rattle.families.proofs.Laws.{unit-node, node-of}
-use Rattle.blocks.specs.Blocks.{blockOf, withBlock, InBuffer}
+use Rattle.blocks.specs.Blocks.{blockOf, withBlock}
+use Rattle.blocks.specs.Inner.{InBuffer}
 use Rattle.blocks.proofs.BlockLaws.{take-through}
 use Rattle.blocks.proofs.PartLaws.{length-blockOf}
 use Rattle.encoding.specs.Matrix.{dataBlock, nodeBlock, nodesBuffer}

@@ -2,8 +2,9 @@
 use Prim.Native.Nat.{ℕ, zero, suc, _-_, _^_}
 use mathlib.Core.Bool.{Bool, not}
 use mathlib.Core.List.{List, [], _++_}
+use Rattle.base.specs.Ranges.{firstFrom}
 use Rattle.families.specs.declared.Family.{Family}
-use Rattle.families.specs.Families.{nodeOf, firstFrom}
+use Rattle.families.specs.Families.{nodeOf}
 use Rattle.blocks.specs.Blocks.{blockOf}
 use Rattle.lists.specs.Lists.{isLive}
 

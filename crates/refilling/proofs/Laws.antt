@@ -11,11 +11,11 @@ use Rattle.families.specs.Families.{familyOf}
 use Rattle.families.proofs.Proved.{family-claims}
 use Rattle.checks.specs.Parameters.{mostL}
 use Rattle.checks.proofs.Laws.{bytes-most}
-use Rattle.boxes.specs.Box.{familyIn, kIn, lengthIn, nodesIn, boxLength}
+use Rattle.boxes.specs.Box.{familyIn, kIn, blockLengthIn, nodeCountIn, boxLength}
 use Rattle.boxes.specs.Claims.{AcceptedBox}
 use Rattle.repair.specs.declared.Session.{Session}
 use Rattle.repair.specs.declared.Started.{Started}
-use Rattle.repair.specs.Session.{nodesOf}
+use Rattle.repair.specs.Session.{nodeCountOf}
 use Rattle.repair.specs.Boxed.{sessionIn, checkedBox, readBox, nodesRead}
 use Rattle.repair.specs.Repairs.{ran, nodesRan}
 use Rattle.repair.specs.Calls.{run}
@@ -25,7 +25,7 @@ use Rattle.repair.proofs.Proved.{box-start-claim, write-read-claim}
 use Rattle.repair.proofs.WholeWayProved.{fits-claim}
 use Rattle.listing.specs.Text.{tooLongLine}
 use Rattle.listing.proofs.ListingLaws.{Accepted, answered}
-use Rattle.refilling.specs.Refilled.{afterRun, boxAfterRun, nodesHeld, refilledOf}
+use Rattle.refilling.specs.Refilled.{afterRun, boxAfterRun, nodesGiven, refilledOf}
 
 -- ---- zeros
 
@@ -46,15 +46,15 @@ module _ (input : List ℕ) (passes : checkedBox input .refusal ≡ 0) where
   pub box : AcceptedBox input
   box = box-start-claim input passes .form
 
-  pub nodes-most : (nodesIn input ≤ 255) × (nodesIn input * lengthIn input ≤ 255 * mostL)
+  pub nodes-most : (nodeCountIn input ≤ 255) × (nodeCountIn input * blockLengthIn input ≤ 255 * mostL)
   nodes-most =
       let n = family-claims (familyOf (familyIn input)) (kIn input) (box .range .blocks) .few in
-      (n, bytes-most (nodesIn input) 255 n (box .range))
+      (n, bytes-most (nodeCountIn input) 255 n (box .range))
 
   pub session-is : checkedBox input .session ≡ sessionIn input
   session-is = ap (λ (r : Started). r .session) (box-start-claim input passes .is)
 
-  module _ (nodes : List ℕ) (size : length nodes ≡ nodesIn input * lengthIn input) where
+  module _ (nodes : List ℕ) (size : length nodes ≡ nodeCountIn input * blockLengthIn input) where
     abbrev given : Session
     given = checkedBox input .session
 
@@ -84,8 +84,8 @@ module _ (input : List ℕ) (passes : checkedBox input .refusal ≡ 0) where
         let s = fits-claim .same given held run in
         record { marks = cc; starts = cc; size = cc }
 
-    module _ (out : List ℕ) (room : boxLength (nodesIn input) (lengthIn input) ≤ length out) where
-      enough : boxLength (nodesOf (afterRun given held)) (afterRun given held .len) ≤ length out
+    module _ (out : List ℕ) (room : boxLength (nodeCountIn input) (blockLengthIn input) ≤ length out) where
+      enough : boxLength (nodeCountOf (afterRun given held)) (afterRun given held .len) ≤ length out
       enough = rw (same .family, same .k, same .len, session-is) room
 
       pub written-claims : WriteReadClaims (afterRun given held) (nodesRan given held) [] out
@@ -94,15 +94,15 @@ module _ (input : List ℕ) (passes : checkedBox input .refusal ≡ 0) where
 -- ---- what the refiller writes
 
 -- the box as it is read into a part of a buffer of zeros
-pub held-is : (input all : List ℕ) (m size : ℕ) → all ≡ replicate m 0 → size ≤ m → size ≡ nodesIn input * lengthIn input → nodesRead input (take size all) ≡ nodesHeld input
-unfolding nodesHeld
+pub held-is : (input all : List ℕ) (m size : ℕ) → all ≡ replicate m 0 → size ≤ m → size ≡ nodeCountIn input * blockLengthIn input → nodesRead input (take size all) ≡ nodesGiven input
+unfolding nodesGiven
 held-is input all m size e h f = ap (nodesRead input) (zeros-part all m size e h ∙ ap (λ (n : ℕ). replicate n 0) f)
 
 module _ (input : List ℕ) (a : Accepted input) where
-  pub refilled-long : 65536 < boxLength (nodesIn input) (lengthIn input) → refilledOf input ≡ tooLongLine
+  pub refilled-long : 65536 < boxLength (nodeCountIn input) (blockLengthIn input) → refilledOf input ≡ tooLongLine
   unfolding refilledOf
-  refilled-long h = answered input _ (a .fits) (a .passes) ∙ rw (lt-ltb 65536 (boxLength (nodesIn input) (lengthIn input)) h)
+  refilled-long h = answered input _ (a .fits) (a .passes) ∙ rw (lt-ltb 65536 (boxLength (nodeCountIn input) (blockLengthIn input)) h)
 
-  pub refilled-is : boxLength (nodesIn input) (lengthIn input) ≤ 65536 → refilledOf input ≡ boxAfterRun (checkedBox input .session) (nodesHeld input)
+  pub refilled-is : boxLength (nodeCountIn input) (blockLengthIn input) ≤ 65536 → refilledOf input ≡ boxAfterRun (checkedBox input .session) (nodesGiven input)
   unfolding refilledOf
-  refilled-is h = answered input _ (a .fits) (a .passes) ∙ rw (le-ltb 65536 (boxLength (nodesIn input) (lengthIn input)) h)
+  refilled-is h = answered input _ (a .fits) (a .passes) ∙ rw (le-ltb 65536 (boxLength (nodeCountIn input) (blockLengthIn input)) h)

@@ -10,9 +10,9 @@ use native.Mathlib.Omega.{arith}
 use lib.ListN.{length, getD, replicate, length-replicate}
 use Rattle.families.specs.Families.{familyOf, IsNode}
 use Rattle.families.proofs.Proved.{family-claims}
-use Rattle.lists.specs.Lists.{isLive}
+use Rattle.lists.specs.Lists.{isLive, isIn}
 use Rattle.blocks.specs.Blocks.{blockOf}
-use Rattle.boxes.specs.Box.{familyIn, kIn, lengthIn, heldIn, namesIn, nodesIn, boxLength, bodyOf}
+use Rattle.boxes.specs.Box.{familyIn, kIn, blockLengthIn, heldCountIn, namesIn, nodeCountIn, boxLength, bodyOf}
 use Rattle.boxes.specs.Bodies.{boxOf}
 use Rattle.boxes.specs.Claims.{Named}
 use Rattle.boxes.proofs.Proved.{box-claim, body-claim}
@@ -21,11 +21,10 @@ use Rattle.repair.specs.declared.Session.{Session}
 use Rattle.repair.specs.declared.Started.{Started}
 use Rattle.repair.specs.declared.Written.{Written}
 use Rattle.repair.specs.declared.Repairs.{Repairs}
-use Rattle.repair.specs.Session.{nodesOf}
+use Rattle.repair.specs.Session.{nodeCountOf}
 use Rattle.repair.specs.Boxed.{sessionIn, checkedBox, readBox, nodesRead, listed, written}
 use Rattle.repair.specs.Repairs.{ran, nodesRan}
-use Rattle.repair.specs.Calls.{run, sessionAfterAll, heldAfter}
-use Rattle.repair.specs.LeftOver.{isIn}
+use Rattle.repair.specs.Calls.{run, sessionAfterAll, stateAfter}
 use Rattle.repair.specs.Claims.{boxWritten, WriteReadClaims}
 use Rattle.repair.specs.RepairClaims.{LiveAreOwn, RunAgain}
 use Rattle.repair.specs.WholeWay.{SameCode, BodiesAreOwn}
@@ -33,13 +32,13 @@ use Rattle.repair.proofs.Proved.{start-marks-claim, box-start-claim, write-read
 use Rattle.repair.proofs.RepairsProved.{live-stays, live-kept, run-again, own-claim}
 use Rattle.repair.proofs.WholeWayProved.{write-live-claim, own-box-claim, missing-open-claim}
 use Rattle.listing.proofs.ListingLaws.{Accepted}
-use Rattle.refilling.specs.Refilled.{liveBox, afterRun, boxAfterRun, nodesHeld, refilledOf}
+use Rattle.refilling.specs.Refilled.{liveBox, afterRun, boxAfterRun, nodesGiven, refilledOf}
 use Rattle.refilling.specs.Claims.{RefilledClaim}
 use Rattle.refilling.proofs.Laws.{box, session-is, same, read-is, reads, held-fits, runs, after-fits, written-claims, refilled-is}
 
 -- ---- what is written of an accepted box that is not too long
 
-module _ (input : List ℕ) (passes : checkedBox input .refusal ≡ 0) (short : boxLength (nodesIn input) (lengthIn input) ≤ 65536) where
+module _ (input : List ℕ) (passes : checkedBox input .refusal ≡ 0) (short : boxLength (nodeCountIn input) (blockLengthIn input) ≤ 65536) where
   abbrev given : Session
   given = checkedBox input .session
 
@@ -48,10 +47,10 @@ module _ (input : List ℕ) (passes : checkedBox input .refusal ≡ 0) (short : 
 
   -- the box is read into zeros
   abbrev zeros : List ℕ
-  zeros = replicate (nodesIn input * lengthIn input) 0
+  zeros = replicate (nodeCountIn input * blockLengthIn input) 0
 
-  zeros-fit : length zeros ≡ nodesIn input * lengthIn input
-  zeros-fit = length-replicate (nodesIn input * lengthIn input) 0
+  zeros-fit : length zeros ≡ nodeCountIn input * blockLengthIn input
+  zeros-fit = length-replicate (nodeCountIn input * blockLengthIn input) 0
 
   abbrev held : List ℕ
   held = nodesRead input zeros
@@ -64,10 +63,10 @@ module _ (input : List ℕ) (passes : checkedBox input .refusal ≡ 0) (short : 
   after = nodesRan given held
 
   abbrev room : List ℕ
-  room = replicate (boxLength (nodesIn input) (lengthIn input)) 0
+  room = replicate (boxLength (nodeCountIn input) (blockLengthIn input)) 0
 
-  room-fits : length room ≡ boxLength (nodesIn input) (lengthIn input)
-  room-fits = length-replicate (boxLength (nodesIn input) (lengthIn input)) 0
+  room-fits : length room ≡ boxLength (nodeCountIn input) (blockLengthIn input)
+  room-fits = length-replicate (boxLength (nodeCountIn input) (blockLengthIn input)) 0
 
   wrote : WriteReadClaims next after [] room
   wrote = written-claims input passes zeros zeros-fit room (omega (arith, room-fits))
@@ -75,13 +74,13 @@ module _ (input : List ℕ) (passes : checkedBox input .refusal ≡ 0) (short : 
   accepted-input : Accepted input
   accepted-input =
       let b = box input passes in
-      record { fits = omega (arith, b .size, b .few-held, mul-le-mul-right (lengthIn input) (b .few-held)); passes = passes }
+      record { fits = omega (arith, b .size, b .few-held, mul-le-mul-right (blockLengthIn input) (b .few-held)); passes = passes }
 
   abbrev refilled : List ℕ
   refilled = refilledOf input
 
   is-box : refilled ≡ liveBox next after
-  unfolding boxAfterRun nodesHeld
+  unfolding boxAfterRun nodesGiven
   is-box = refilled-is input accepted-input short
 
   is-written : refilled ≡ boxWritten next after [] room
@@ -117,7 +116,7 @@ module _ (input : List ℕ) (passes : checkedBox input .refusal ≡ 0) (short : 
     held-live : isIn (namesIn refilled) j ≡ isLive (next .live) j
     held-live =
         let from = sym (box-start-claim refilled accepted .start) ∙ checked in
-        sym (start-marks-claim (familyIn refilled) (kIn refilled) (lengthIn refilled) (namesIn refilled) (ap (λ (r : Started). r .refusal) from) j low)
+        sym (start-marks-claim (familyIn refilled) (kIn refilled) (blockLengthIn refilled) (namesIn refilled) (ap (λ (r : Started). r .refusal) from) j low)
         ∙ ap (λ (r : Started). isLive (r .session .live) j) from
 
     -- and after the run the missing ones are the open ones
@@ -126,7 +125,7 @@ module _ (input : List ℕ) (passes : checkedBox input .refusal ≡ 0) (short : 
     missing M some =
         let from = box-start-claim input passes .start in
         subst (λ (r : Started). (isLive (ran (r .session) held .session .live) j ≡ false) ↔ Open (familyOf (familyIn input)) (kIn input) M (namesIn input) j) (sym from)
-        (missing-open-claim (familyIn input) (kIn input) (lengthIn input) (namesIn input) (ap (λ (r : Started). r .refusal) (sym from) ∙ passes) [] held
+        (missing-open-claim (familyIn input) (kIn input) (blockLengthIn input) (namesIn input) (ap (λ (r : Started). r .refusal) (sym from) ∙ passes) [] held
         (subst (λ (r : Started). ran (r .session) held .refusal ≡ 0) from (runs input passes zeros zeros-fit))
         M some j node)
 
@@ -135,7 +134,7 @@ module _ (input : List ℕ) (passes : checkedBox input .refusal ≡ 0) (short : 
 
   -- ---- its bodies
 
-  module _ (i : ℕ) (l : i < heldIn input) where
+  module _ (i : ℕ) (l : i < heldCountIn input) where
     abbrev node : ℕ
     node = getD (namesIn input) i 0
 
@@ -167,8 +166,8 @@ module _ (input : List ℕ) (passes : checkedBox input .refusal ≡ 0) (short : 
         ∙ ap (λ (L : ℕ). blockOf L held node) (ap (λ (s : Session). s .len) given-is)
         ∙ read-body-claim input zeros (reads input passes zeros zeros-fit) i l
 
-  own : (object : List ℕ) → length object ≡ kIn input * lengthIn input → BodiesAreOwn object input → BodiesAreOwn object refilled
-  unfolding heldAfter
+  own : (object : List ℕ) → length object ≡ kIn input * blockLengthIn input → BodiesAreOwn object input → BodiesAreOwn object refilled
+  unfolding stateAfter
   own object size bodies =
       let c = own-box-claim in
       let read-own : LiveAreOwn object given held
@@ -178,7 +177,7 @@ module _ (input : List ℕ) (passes : checkedBox input .refusal ≡ 0) (short : 
 
 -- ---- refilled again
 
-module _ (input : List ℕ) (passes : checkedBox input .refusal ≡ 0) (short : boxLength (nodesIn input) (lengthIn input) ≤ 65536) where
+module _ (input : List ℕ) (passes : checkedBox input .refusal ≡ 0) (short : boxLength (nodeCountIn input) (blockLengthIn input) ≤ 65536) where
   abbrev first : List ℕ
   first = refilledOf input
 
@@ -191,7 +190,7 @@ module _ (input : List ℕ) (passes : checkedBox input .refusal ≡ 0) (short : 
   passes-again : checkedBox first .refusal ≡ 0
   passes-again = accepted input passes short
 
-  short-again : boxLength (nodesIn first) (lengthIn first) ≤ 65536
+  short-again : boxLength (nodeCountIn first) (blockLengthIn first) ≤ 65536
   short-again = let c = code input passes short in rw (c .family, c .k, c .len) short
 
   -- what is read of the first box
@@ -203,9 +202,9 @@ module _ (input : List ℕ) (passes : checkedBox input .refusal ≡ 0) (short : 
 
   -- the second run leaves session and buffer as they were
   abbrev room-of : Session → ℕ
-  room-of s = nodesOf s * s .len
+  room-of s = nodeCountOf s * s .len
 
-  same-size : nodesIn first * lengthIn first ≡ nodesIn input * lengthIn input
+  same-size : nodeCountIn first * blockLengthIn first ≡ nodeCountIn input * blockLengthIn input
   same-size = let c = code input passes short in rw (c .family, c .k, c .len)
 
   quiet : RunAgain start read-first read-again

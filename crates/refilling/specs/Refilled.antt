@@ -4,7 +4,7 @@ use mathlib.Core.Bool.{cond}
 use mathlib.Core.List.{List, []}
 use lib.Dec.{ltb}
 use lib.ListN.{replicate}
-use Rattle.boxes.specs.Box.{lengthIn, nodesIn, boxLength}
+use Rattle.boxes.specs.Box.{blockLengthIn, nodeCountIn, boxLength}
 use Rattle.boxes.specs.Bodies.{boxOf}
 use Rattle.repair.specs.declared.Session.{Session}
 use Rattle.repair.specs.Boxed.{checkedBox, nodesRead, listed}
@@ -25,11 +25,11 @@ unfoldable pub boxAfterRun : Session → List ℕ → List ℕ
 boxAfterRun s nodes = liveBox (afterRun s nodes) (nodesRan s nodes)
 
 -- the box read into a nodes buffer, in which the places of missing nodes are zeros
-unfoldable pub nodesHeld : List ℕ → List ℕ
-nodesHeld input = nodesRead input (replicate (nodesIn input * lengthIn input) 0)
+unfoldable pub nodesGiven : List ℕ → List ℕ
+nodesGiven input = nodesRead input (replicate (nodeCountIn input * blockLengthIn input) 0)
 
 -- what the refiller writes: `too long` where the box of all n nodes would be above 65,536 bytes
 unfoldable pub refilledOf : List ℕ → List ℕ
 refilledOf input =
     answerOf input
-    (cond (ltb mostBytes (boxLength (nodesIn input) (lengthIn input))) tooLongLine (boxAfterRun (checkedBox input .session) (nodesHeld input)))
+    (cond (ltb mostBytes (boxLength (nodeCountIn input) (blockLengthIn input))) tooLongLine (boxAfterRun (checkedBox input .session) (nodesGiven input)))

@@ -4,7 +4,7 @@ ghost use mathlib.Core.Path.{_≡_};
 ghost use mathlib.Core.List.{_++_};
 ghost use Prim.Native.Nat.{_*_, _≤_};
 ghost use lib.ListN.{length, drop, replicate};
-ghost use Rattle.boxes.specs.Box.{lengthIn, nodesIn, boxLength};
+ghost use Rattle.boxes.specs.Box.{blockLengthIn, nodeCountIn, boxLength};
 ghost use Rattle.repair.specs.Boxed.{checkedBox, nodesRead};
 ghost use Rattle.refilling.specs.Refilled.{boxAfterRun, refilledOf};
 
@@ -19,8 +19,8 @@ fn no_blocks() -> [u8; 65536]
 // gives its length.
 fn put_refilled(input: &[u8], nodes: &mut [u8], out: &mut [u8]) -> usize
     requires { ⌜ checkedBox (now input) .refusal ≡ 0 ⌝ }
-    requires { ⌜ length (now nodes) ≡ nodesIn (now input) * lengthIn (now input) ⌝ }
-    requires { ⌜ boxLength (nodesIn (now input)) (lengthIn (now input)) ≤ length (now out) ⌝ }
+    requires { ⌜ length (now nodes) ≡ nodeCountIn (now input) * blockLengthIn (now input) ⌝ }
+    requires { ⌜ boxLength (nodeCountIn (now input)) (blockLengthIn (now input)) ≤ length (now out) ⌝ }
     ensures { λ r. ⌜ r ≡ length (boxAfterRun (checkedBox (now (input .entry)) .session) (nodesRead (now (input .entry)) (now (nodes .entry)))) ⌝ }
     ensures { λ r. ⌜ r ≤ length (now (out .entry)) ⌝ }
     ensures { λ _. ⌜ now (out .exit) ≡ boxAfterRun (checkedBox (now (input .entry)) .session) (nodesRead (now (input .entry)) (now (nodes .entry))) ++ drop (length (boxAfterRun (checkedBox (now (input .entry)) .session) (nodesRead (now (input .entry)) (now (nodes .entry))))) (now (out .entry)) ⌝ }

@@ -13,11 +13,11 @@ use Rattle.checks.specs.Claims.{NoneMet}
 use Rattle.checks.proofs.Laws.{accepted, none-append, some-append}
 use Rattle.lists.specs.Lists.{someOutside, rises, listChecks, someMissing, liveNodes}
 use Rattle.lists.proofs.Laws.{list-accepted}
-use Rattle.boxes.specs.Box.{lengthIn, namesIn, bodiesIn, nodesIn, boxLength, boxChecks}
+use Rattle.boxes.specs.Box.{blockLengthIn, namesIn, bodiesIn, nodeCountIn, boxLength, boxChecks}
 use Rattle.boxes.specs.Bodies.{boxOf, withBodies}
 use Rattle.boxes.proofs.Answers.{box-none}
 use Rattle.repair.specs.declared.Session.{Session}
-use Rattle.repair.specs.Session.{refusedStart, nodesOf, nodesChecks}
+use Rattle.repair.specs.Session.{refusedStart, nodeCountOf, nodesChecks}
 use Rattle.repair.specs.Boxed.{sessionIn, boxAnswer, readChecks, readBox, nodesRead, listed, writtenLength, writeChecks, written, outWritten}
 use Rattle.repair.proofs.StartLaws.{nodes-none}
 
@@ -41,25 +41,25 @@ module _ (bytes nodes : List ℕ) where
   read-by-box number e h = refused number (some-append (boxChecks bytes) _ (λ z. h (e ∙ z)) ∙ sym e) h
 
   module _ (e : firstMet (boxChecks bytes) ≡ 0) where
-    pub read-by-nodes : (length nodes ≡ nodesIn bytes * lengthIn bytes → ⊥) → ReadRefused 6
+    pub read-by-nodes : (length nodes ≡ nodeCountIn bytes * blockLengthIn bytes → ⊥) → ReadRefused 6
     unfolding readChecks firstMet
-    read-by-nodes h = refused 6 (none-append (boxChecks bytes) _ (box-none bytes e) ∙ simp (ne-eqb (length nodes) (nodesIn bytes * lengthIn bytes) h)) (λ z. omega arith)
+    read-by-nodes h = refused 6 (none-append (boxChecks bytes) _ (box-none bytes e) ∙ simp (ne-eqb (length nodes) (nodeCountIn bytes * blockLengthIn bytes) h)) (λ z. omega arith)
 
     pub record ReadDone : Type 0 where
       pub answer : record { refusal = 0; session = sessionIn bytes } ≡ readBox bytes nodes
-      pub written : withBodies (lengthIn bytes) nodes (namesIn bytes) (bodiesIn bytes) ≡ nodesRead bytes nodes
+      pub written : withBodies (blockLengthIn bytes) nodes (namesIn bytes) (bodiesIn bytes) ≡ nodesRead bytes nodes
 
-    pub read-done : length nodes ≡ nodesIn bytes * lengthIn bytes → ReadDone
+    pub read-done : length nodes ≡ nodeCountIn bytes * blockLengthIn bytes → ReadDone
     unfolding readBox nodesRead readChecks firstMet
     read-done h =
-        let f : firstMet (readChecks bytes nodes) ≡ 0 = none-append (boxChecks bytes) _ (box-none bytes e) ∙ simp (eq-eqb (length nodes) (nodesIn bytes * lengthIn bytes) h) in
+        let f : firstMet (readChecks bytes nodes) ≡ 0 = none-append (boxChecks bytes) _ (box-none bytes e) ∙ simp (eq-eqb (length nodes) (nodeCountIn bytes * blockLengthIn bytes) h) in
         record { answer = simp f; written = simp f }
 
 -- ---- write
 
 module _ (s : Session) (nodes list out : List ℕ) where
   abbrev lists : List Check
-  lists = listChecks (nodesOf s) list ++ ((someMissing (s .live) list gives 12) ∷ [])
+  lists = listChecks (nodeCountOf s) list ++ ((someMissing (s .live) list gives 12) ∷ [])
 
   abbrev room : List Check
   room = (ltb (length out) (writtenLength s list) gives 6) ∷ []
@@ -90,7 +90,7 @@ module _ (s : Session) (nodes list out : List ℕ) where
   -- what is known once 13, 6, 4, 5 and 12 are passed
   pub record Listed : Type 0 where
     pub sizes : firstMet (nodesChecks s (length nodes)) ≡ 0
-    pub inside : someOutside (nodesOf s) list ≡ false
+    pub inside : someOutside (nodeCountOf s) list ≡ false
     pub rising : rises list ≡ true
     pub live : someMissing (s .live) list ≡ false
 
@@ -125,7 +125,7 @@ pub listed-some : (s : Session) (list : List ℕ) → (length list ≡ 0 → ⊥
 listed-some s [] h = absurd (h refl)
 listed-some s (j ∷ list) h = refl
 
-pub listed-all : (s : Session) (list : List ℕ) → length list ≡ 0 → listed s list ≡ liveNodes (s .live) (nodesOf s)
+pub listed-all : (s : Session) (list : List ℕ) → length list ≡ 0 → listed s list ≡ liveNodes (s .live) (nodeCountOf s)
 listed-all s [] h = refl
 listed-all s (j ∷ list) h = absurd (omega arith)
 
@@ -135,21 +135,21 @@ module _ (s : Session) (length : ℕ) (list : List ℕ) where
   missing = (someMissing (s .live) list gives 12) ∷ []
 
   abbrev checks : List Check
-  checks = nodesChecks s length ++ (listChecks (nodesOf s) list ++ missing)
+  checks = nodesChecks s length ++ (listChecks (nodeCountOf s) list ++ missing)
 
   pub list-stops : (firstMet (nodesChecks s length) ≡ 0 → ⊥) → firstMet checks ≡ firstMet (nodesChecks s length)
   list-stops h = some-append (nodesChecks s length) _ h
 
   module _ (e : firstMet (nodesChecks s length) ≡ 0) where
-    on : firstMet checks ≡ firstMet (listChecks (nodesOf s) list ++ missing)
+    on : firstMet checks ≡ firstMet (listChecks (nodeCountOf s) list ++ missing)
     on = none-append (nodesChecks s length) _ (nodes-none s length e)
 
-    pub list-numbers : (firstMet (listChecks (nodesOf s) list) ≡ 0 → ⊥) → firstMet checks ≡ firstMet (listChecks (nodesOf s) list)
-    list-numbers h = on ∙ some-append (listChecks (nodesOf s) list) missing h
+    pub list-numbers : (firstMet (listChecks (nodeCountOf s) list) ≡ 0 → ⊥) → firstMet checks ≡ firstMet (listChecks (nodeCountOf s) list)
+    list-numbers h = on ∙ some-append (listChecks (nodeCountOf s) list) missing h
 
-    module _ (g : firstMet (listChecks (nodesOf s) list) ≡ 0) where
+    module _ (g : firstMet (listChecks (nodeCountOf s) list) ≡ 0) where
       past : firstMet checks ≡ firstMet missing
-      past = on ∙ none-append (listChecks (nodesOf s) list) missing (list-accepted (nodesOf s) list g)
+      past = on ∙ none-append (listChecks (nodeCountOf s) list) missing (list-accepted (nodeCountOf s) list g)
 
       pub list-12 : someMissing (s .live) list ≡ true → firstMet checks ≡ 12
       unfolding firstMet

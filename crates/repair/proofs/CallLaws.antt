@@ -18,7 +18,7 @@ use Rattle.planning.specs.Plan.{Step, repairedNodes, marksAfter, nodesLeft}
 use Rattle.repair.specs.declared.Session.{Session}
 use Rattle.repair.specs.declared.Stepped.{Stepped}
 use Rattle.repair.specs.declared.Repairs.{Repairs}
-use Rattle.repair.specs.Session.{sessionOf, startChecks, started, nodesOf}
+use Rattle.repair.specs.Session.{sessionOf, startChecks, started, nodeCountOf}
 use Rattle.repair.specs.Step.{stepChecks, withLive, stepped}
 use Rattle.repair.specs.Repairs.{planIn, repairsOf, refusedRepairs, planChecks, planned, runChecks, ran}
 use Rattle.repair.specs.Calls.{Move, step, run, Call, sessionAfter, sessionAfterAll, addedBy, liveAfter}
@@ -46,19 +46,19 @@ from-start family k L list e =
 -- ---- an accepted plan or run
 
 left-of : (s next : Session) (r : ℕ) → cond (eqb r 0) (repairsOf s next) (refusedRepairs s r) .refusal ≡ 0
-    → cond (eqb r 0) (repairsOf s next) (refusedRepairs s r) .left ≡ nodesLeft (marksAfter (s .live) (planIn s)) (nodesOf s)
+    → cond (eqb r 0) (repairsOf s next) (refusedRepairs s r) .left ≡ nodesLeft (marksAfter (s .live) (planIn s)) (nodeCountOf s)
 left-of s next r h = go (eqb r 0) refl h
   where
     go : (b : Bool) → eqb r 0 ≡ b → cond b (repairsOf s next) (refusedRepairs s r) .refusal ≡ 0
-        → cond b (repairsOf s next) (refusedRepairs s r) .left ≡ nodesLeft (marksAfter (s .live) (planIn s)) (nodesOf s)
+        → cond b (repairsOf s next) (refusedRepairs s r) .left ≡ nodesLeft (marksAfter (s .live) (planIn s)) (nodeCountOf s)
     go true e h = refl
     go false e h = absurd (eqb-false r 0 e h)
 
-pub ran-left : (s : Session) (nodes : List ℕ) → ran s nodes .refusal ≡ 0 → ran s nodes .left ≡ nodesLeft (marksAfter (s .live) (planIn s)) (nodesOf s)
+pub ran-left : (s : Session) (nodes : List ℕ) → ran s nodes .refusal ≡ 0 → ran s nodes .left ≡ nodesLeft (marksAfter (s .live) (planIn s)) (nodeCountOf s)
 unfolding ran
 ran-left s nodes h = left-of s (withLive s (repairedNodes (planIn s))) (firstMet (runChecks s nodes)) h
 
-pub planned-left : (s : Session) (out : List ℕ) → planned s out .refusal ≡ 0 → planned s out .left ≡ nodesLeft (marksAfter (s .live) (planIn s)) (nodesOf s)
+pub planned-left : (s : Session) (out : List ℕ) → planned s out .refusal ≡ 0 → planned s out .left ≡ nodesLeft (marksAfter (s .live) (planIn s)) (nodeCountOf s)
 unfolding planned
 planned-left s out h = left-of s s (firstMet (planChecks s out)) h
 

@@ -15,14 +15,14 @@ use Rattle.checks.specs.Checks.{firstMet}
 use Rattle.checks.proofs.Laws.{none-zero, none-append, parameters-in}
 use Rattle.lists.specs.Lists.{someOutside, rises, noneLive, setLive, someMissing, liveNodes}
 use Rattle.lists.proofs.Laws.{length-setLive, list-outside-none, live-nodes-few}
-use Rattle.boxes.specs.Box.{lengthIn, namesIn, nodesIn, boxLength, boxChecks}
+use Rattle.boxes.specs.Box.{blockLengthIn, namesIn, nodeCountIn, boxLength, boxChecks}
 use Rattle.boxes.proofs.Answers.{box-none}
 use Rattle.boxes.proofs.Laws.{accepted-box}
 use Rattle.planning.specs.Plan.{Step, repairedNodes}
 use Rattle.repair.specs.declared.Session.{Session}
 use Rattle.repair.specs.declared.Stepped.{Stepped}
 use Rattle.repair.specs.declared.Repairs.{Repairs}
-use Rattle.repair.specs.Session.{sessionOf, startChecks, started, nodesOf, nodesChecks}
+use Rattle.repair.specs.Session.{sessionOf, startChecks, started, nodeCountOf, nodesChecks}
 use Rattle.repair.specs.Boxed.{sessionIn, checkedBox, readChecks, readBox, nodesRead, writeChecks, written}
 use Rattle.repair.specs.Step.{stepChecks, stepped, nodesStepped}
 use Rattle.repair.specs.Repairs.{planIn, refusedRepairs, runChecks, ran, nodesRan}
@@ -47,14 +47,14 @@ module _ (family k L : ℕ) (list : List ℕ) (e : firstMet (startChecks family 
       rw session-started
       (record {
         marks = length-setLive noneLive list;
-        starts = no-start-marks s (parameters-in family k L (a .range)) ∙ list-outside-none (nodesOf s) list (few (familyOf family) k (a .range .blocks)) (a .outside);
+        starts = no-start-marks s (parameters-in family k L (a .range)) ∙ list-outside-none (nodeCountOf s) list (few (familyOf family) k (a .range .blocks)) (a .outside);
         size = size;
       })
 
-pub read-same : (bytes nodes : List ℕ) → firstMet (boxChecks bytes) ≡ 0 → length nodes ≡ nodesIn bytes * lengthIn bytes → readBox bytes nodes ≡ checkedBox bytes
+pub read-same : (bytes nodes : List ℕ) → firstMet (boxChecks bytes) ≡ 0 → length nodes ≡ nodeCountIn bytes * blockLengthIn bytes → readBox bytes nodes ≡ checkedBox bytes
 unfolding readBox checkedBox readChecks firstMet
 read-same bytes nodes e size =
-    let reads : firstMet (readChecks bytes nodes) ≡ 0 = none-append (boxChecks bytes) _ (box-none bytes e) ∙ simp (eq-eqb (length nodes) (nodesIn bytes * lengthIn bytes) size) in
+    let reads : firstMet (readChecks bytes nodes) ≡ 0 = none-append (boxChecks bytes) _ (box-none bytes e) ∙ simp (eq-eqb (length nodes) (nodeCountIn bytes * blockLengthIn bytes) size) in
     rw (reads, e)
 
 module _ (bytes nodes : List ℕ) (e : firstMet (readChecks bytes nodes) ≡ 0) where
@@ -122,11 +122,11 @@ module _ (s : Session) (nodes : List ℕ) where
 
 -- ---- every live node written
 
-pub fits-write : (s : Session) (nodes out : List ℕ) → Fits s nodes → boxLength (nodesOf s) (s .len) ≤ length out → written s nodes [] out .refusal ≡ 0
+pub fits-write : (s : Session) (nodes out : List ℕ) → Fits s nodes → boxLength (nodeCountOf s) (s .len) ≤ length out → written s nodes [] out .refusal ≡ 0
 unfolding written writeChecks nodesChecks someOutside rises someMissing
 fits-write s nodes out f room =
-    let few-live = live-nodes-few (s .live) (nodesOf s) in
+    let few-live = live-nodes-few (s .live) (nodeCountOf s) in
     let none : firstMet (writeChecks s nodes [] out) ≡ 0
     = none-zero (writeChecks s nodes [] out)
-    (f .starts, (ap not (eq-eqb (length nodes) (nodesOf s * s .len) (f .size)), (refl, (refl, (refl, (le-ltb (length out) (boxLength (length (liveNodes (s .live) (nodesOf s))) (s .len)) (omega (arith, few-live, mul-le-mul-right (s .len) few-live)), tt)))))) in
+    (f .starts, (ap not (eq-eqb (length nodes) (nodeCountOf s * s .len) (f .size)), (refl, (refl, (refl, (le-ltb (length out) (boxLength (length (liveNodes (s .live) (nodeCountOf s))) (s .len)) (omega (arith, few-live, mul-le-mul-right (s .len) few-live)), tt)))))) in
     rw none

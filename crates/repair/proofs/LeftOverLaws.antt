@@ -12,7 +12,7 @@ use Rattle.families.specs.declared.Family.{Family}
 use Rattle.families.specs.Families.{KInRange, IsNode, nodeCount}
 use Rattle.families.proofs.Laws.{few}
 use Rattle.checks.proofs.Laws.{outside-no}
-use Rattle.lists.specs.Lists.{someOutside, noneLive, isLive, setLive}
+use Rattle.lists.specs.Lists.{someOutside, noneLive, isLive, setLive, isIn}
 use Rattle.lists.proofs.Laws.{length-setLive, live-of-list}
 use Rattle.lists.proofs.MarkLaws.{live-keeps, live-append}
 use Rattle.planning.specs.Claims.{CanMake, CanMakeAll, PlanClaims}
@@ -23,7 +23,6 @@ use Rattle.leftover.specs.Open.{OpenCount}
 use Rattle.leftover.proofs.Reached.{Reached, given, repaired, Ended}
 use Rattle.leftover.proofs.Missing.{missing-count}
 use Rattle.leftover.proofs.Count.{one-count}
-use Rattle.repair.specs.LeftOver.{isIn}
 
 -- ---- the marks of lists
 

@@ -7,7 +7,7 @@ use native.Mathlib.Omega.{arith}
 use Rattle.families.specs.declared.Family.{Family}
 use Rattle.families.specs.Families.{familyOf}
 use Rattle.families.proofs.Laws.{few}
-use Rattle.lists.specs.Lists.{noneLive, isLive, setLive}
+use Rattle.lists.specs.Lists.{noneLive, isLive, setLive, isIn}
 use Rattle.planning.specs.Pairs.{NoPairLeft}
 use Rattle.leftover.specs.Open.{OpenCount}
 use Rattle.leftover.proofs.Reached.{Ended}
@@ -16,7 +16,7 @@ use Rattle.leftover.proofs.Count.{one-count}
 use Rattle.repair.specs.declared.Session.{Session}
 use Rattle.repair.specs.Session.{sessionOf}
 use Rattle.repair.specs.Calls.{Call, sessionAfterAll, liveAfter}
-use Rattle.repair.specs.LeftOver.{isIn, lastSession, LeftOver, Demand3, SameCount}
+use Rattle.repair.specs.LeftOver.{lastSession, LeftOver, Demand3, SameCount}
 use Rattle.repair.proofs.Accepted.{start-accepted}
 use Rattle.repair.proofs.LeftOverLaws.{Grown, grown-start, grown-ended, is-in, leftOf, left-open, left-same}
 use Rattle.repair.proofs.CallLaws.{FromStart, from-start, ran-left, planned-left, calls-session, calls-live}

@@ -10,8 +10,8 @@ use native.Mathlib.Omega.{arith}
 use borrow.Author.Tests.{eqb-true, eqb-false}
 use lib.Dec.{eqb}
 use lib.ListN.{length, getD}
+use Rattle.base.specs.Ranges.{firstFrom}
 use Rattle.families.specs.declared.Family.{Family}
-use Rattle.families.specs.Families.{firstFrom}
 use Rattle.blocks.specs.Blocks.{blockOf}
 use Rattle.lists.specs.Lists.{placeIn}
 use Rattle.readout.specs.DataBlocks.{dataNode, dataBlocks}

@@ -10,10 +10,12 @@ use borrow.Author.Tests.{eqb-true, not-false}
 use lib.Dec.{eqb}
 use lib.ListN.{length, set, length-set}
 use lib.Seq.{getD-set-same, getD-set-other}
+use Rattle.base.specs.Ranges.{someFrom}
 use Rattle.families.specs.declared.Family.{Family}
 use Rattle.families.specs.Families.{familyOf, KInRange, IsNode, columnOf}
 use Rattle.families.proofs.Laws.{few}
-use Rattle.blocks.specs.Blocks.{xorBytes, blockOf, InBuffer}
+use Rattle.blocks.specs.Blocks.{xorBytes, blockOf}
+use Rattle.blocks.specs.Inner.{InBuffer}
 use Rattle.blocks.proofs.BlockLaws.{in-buffer, blockOf-same, blockOf-other}
 use Rattle.blocks.proofs.PartLaws.{length-blockOf}
 use Rattle.blocks.proofs.XorBytes.{length-xorBytes}
@@ -21,7 +23,7 @@ use Rattle.checks.specs.Checks.{firstMet}
 use Rattle.checks.proofs.Laws.{accepted}
 use Rattle.encoding.specs.Matrix.{nodeBlock, nodesBuffer}
 use Rattle.encoding.proofs.Nodes.{related-block, buffer-block}
-use Rattle.lists.specs.Lists.{isLive, setLive, someLive, liveOutside}
+use Rattle.lists.specs.Lists.{isLive, setLive, liveOutside}
 use Rattle.lists.proofs.MarkLaws.{set-keeps, live-keeps}
 use Rattle.planning.specs.Claims.{CanMakeAll}
 use Rattle.planning.specs.Made.{mended, nodesMade}
@@ -34,11 +36,11 @@ use Rattle.readout.proofs.Laws.{data-node, blocks-of-encoded}
 use Rattle.repair.specs.declared.Session.{Session}
 use Rattle.repair.specs.declared.Stepped.{Stepped}
 use Rattle.repair.specs.declared.Repairs.{Repairs}
-use Rattle.repair.specs.Session.{nodesOf, noStart, nodesChecks}
+use Rattle.repair.specs.Session.{nodeCountOf, noStart, nodesChecks}
 use Rattle.repair.specs.ReadOut.{missingIn, readOutChecks, objectOut}
 use Rattle.repair.specs.Step.{stepChecks, withLive, stepped, nodesStepped}
 use Rattle.repair.specs.Repairs.{planIn, runChecks, ran, nodesRan}
-use Rattle.repair.specs.Calls.{Move, step, run, sessionAfter, nodesAfter, Held, heldAfter}
+use Rattle.repair.specs.Calls.{Move, step, run, sessionAfter, nodesAfter, State, stateAfter}
 use Rattle.repair.specs.RepairClaims.{asMove, LiveAreOwn}
 use Rattle.repair.proofs.StartLaws.{Known, known, Sized, sized}
 use Rattle.repair.proofs.StepLaws.{AcceptedStep, accepted-step, step-accepted}
@@ -47,8 +49,8 @@ use Rattle.repair.proofs.ListedLaws.{first-zero, same-blocks}
 
 -- ---- a session with one node more is still one that some start gives
 
-some-kept : (marks : List Bool) (j i m : ℕ) → j < i → someLive (set marks j true) i m ≡ someLive marks i m
-unfolding someLive
+some-kept : (marks : List Bool) (j i m : ℕ) → j < i → someFrom (isLive (set marks j true)) i m ≡ someFrom (isLive marks) i m
+unfolding someFrom
 some-kept marks j i zero h = refl
 some-kept marks j i (suc m) h = ap₂ _||_ (getD-set-other marks j i true false (λ e. omega arith)) (some-kept marks j (suc i) m (omega arith))
 
@@ -58,7 +60,7 @@ outside-kept n marks j h g = ap₂ _||_ (getD-set-other marks j 0 true false (λ
 
 start-kept : (s : Session) (j : ℕ) → IsNode (familyOf (s .family)) (s .k) j → noStart (withLive s (j ∷ [])) ≡ noStart s
 unfolding noStart setLive
-start-kept s j n = rw (outside-kept (nodesOf s) (s .live) j (n .first) (n .last))
+start-kept s j n = rw (outside-kept (nodeCountOf s) (s .live) j (n .first) (n .last))
 
 -- ---- a step, accepted
 
@@ -80,7 +82,7 @@ module _ (s : Session) (nodes : List ℕ) (made : Step) (w : AcceptedStep s node
 
   -- its blocks
   in-nodes : (i : ℕ) → IsNode (familyOf (s .family)) (s .k) i → InBuffer (s .len) nodes i
-  in-nodes i n = in-buffer (s .len) nodes (nodesOf s) i (w .buffer .size) (n .first) (n .last)
+  in-nodes i n = in-buffer (s .len) nodes (nodeCountOf s) i (w .buffer .size) (n .first) (n .last)
 
   abbrev block : List ℕ
   block = xorBytes (blockOf (s .len) nodes (made .smaller)) (blockOf (s .len) nodes (made .larger))
@@ -109,12 +111,12 @@ module _ (s : Session) (nodes : List ℕ) (made : Step) (w : AcceptedStep s node
 -- ---- steps that can be made, one after the other
 
 steps-held : (s : Session) (nodes : List ℕ) (steps : List Step) → Sized s (length nodes) → CanMakeAll (familyOf (s .family)) (s .k) (s .live) steps
-    → heldAfter s nodes (map asMove steps) ≡ record { session = withLive s (repairedNodes steps); nodes = nodesMade (s .len) nodes steps }
-unfolding heldAfter nodesMade setLive
+    → stateAfter s nodes (map asMove steps) ≡ record { session = withLive s (repairedNodes steps); nodes = nodesMade (s .len) nodes steps }
+unfolding stateAfter nodesMade setLive
 steps-held s nodes [] z a = refl
 steps-held s nodes (x ∷ steps) z a =
     let w : AcceptedStep s nodes x = record { buffer = z; makes = a .0 } in
-    ap₂ (λ (t : Session) (b : List ℕ). heldAfter t b (map asMove steps)) (session-stepped s nodes x w) (nodes-stepped s nodes x w)
+    ap₂ (λ (t : Session) (b : List ℕ). stateAfter t b (map asMove steps)) (session-stepped s nodes x w) (nodes-stepped s nodes x w)
     ∙ steps-held (sessionWith s x) (nodesWith s nodes x) steps (sized-stepped s nodes x w) (a .1)
 
 -- the session and the buffer after them are again such as an operation accepts
@@ -198,7 +200,7 @@ module _ (s : Session) (nodes : List ℕ) (e : firstMet (runChecks s nodes) ≡ 
         → blockOf (s .len) (nodesRan s nodes) j ≡ blockOf (s .len) nodes j
     run-keeps-live j n l = run-keeps j n (live-apart (familyOf (s .family)) (s .k) (s .live) (planIn s) (plan-makes size) j l)
 
-  pub run-steps : length (s .live) ≡ 256 → heldAfter s nodes (map asMove (planIn s)) ≡ record { session = ran s nodes .session; nodes = nodesRan s nodes }
+  pub run-steps : length (s .live) ≡ 256 → stateAfter s nodes (map asMove (planIn s)) ≡ record { session = ran s nodes .session; nodes = nodesRan s nodes }
   run-steps size =
       steps-held s nodes (planIn s) run-sized (plan-makes size)
       ∙ rw (session-ran, nodes-ran)
@@ -215,7 +217,7 @@ module _ (s : Session) (nodes : List ℕ) (e : firstMet (runChecks s nodes) ≡ 
   no-plan : planIn s ≡ []
   no-plan = no-steps (familyOf (s .family)) (s .k) (s .live) (planIn s) (plan-makes s nodes e size) done
 
-  pub quiet-answer : ran s nodes ≡ record { refusal = 0; steps = 0; rounds = 0; left = nodesLeft (s .live) (nodesOf s); session = s }
+  pub quiet-answer : ran s nodes ≡ record { refusal = 0; steps = 0; rounds = 0; left = nodesLeft (s .live) (nodeCountOf s); session = s }
   unfolding ran setLive lastRound
   quiet-answer = rw (e, no-plan)
 
@@ -269,7 +271,7 @@ module _ (object : List ℕ) where
     pub size : length object ≡ s .k * s .len
     pub live : LiveAreOwn object s nodes
 
-  abbrev pub OwnHeld : Held → Type 0
+  abbrev pub OwnHeld : State → Type 0
   OwnHeld held = Own (held .session) (held .nodes)
 
   own-made : (s : Session) (nodes : List ℕ) (made : Step) → AcceptedStep s nodes made → Own s nodes
@@ -306,8 +308,8 @@ module _ (object : List ℕ) where
       go true e = let w = accepted-step s nodes made (eqb-true _ 0 e) in rw (session-stepped s nodes made w, nodes-stepped s nodes made w) (own-made s nodes made w o)
       go false e = rw e o
 
-  own-steps : (s : Session) (nodes : List ℕ) (steps : List Step) → Own s nodes → OwnHeld (heldAfter s nodes (map asMove steps))
-  unfolding heldAfter
+  own-steps : (s : Session) (nodes : List ℕ) (steps : List Step) → Own s nodes → OwnHeld (stateAfter s nodes (map asMove steps))
+  unfolding stateAfter
   own-steps s nodes [] o = o
   own-steps s nodes (x ∷ steps) o = own-steps (sessionAfter s nodes (asMove x)) (nodesAfter s nodes (asMove x)) steps (own-step s nodes (x .node) (x .smaller) (x .larger) o)
 
@@ -319,8 +321,8 @@ module _ (object : List ℕ) where
       go true e = subst OwnHeld (run-steps s nodes (eqb-true _ 0 e) (o .marks)) (own-steps s nodes (planIn s) o)
       go false e = rw e o
 
-  pub own-moves : (s : Session) (nodes : List ℕ) (moves : List Move) → Own s nodes → OwnHeld (heldAfter s nodes moves)
-  unfolding heldAfter
+  pub own-moves : (s : Session) (nodes : List ℕ) (moves : List Move) → Own s nodes → OwnHeld (stateAfter s nodes moves)
+  unfolding stateAfter
   own-moves s nodes [] o = o
   own-moves s nodes (step j a b ∷ moves) o =
       own-moves (sessionAfter s nodes (step j a b)) (nodesAfter s nodes (step j a b)) moves (own-step s nodes j a b o)

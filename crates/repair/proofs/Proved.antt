@@ -14,13 +14,13 @@ use Rattle.checks.specs.Checks.{firstMet}
 use Rattle.checks.proofs.Laws.{parameters-in}
 use Rattle.lists.specs.Lists.{placeIn, noneLive, isLive, setLive, liveNodes, liveOutside}
 use Rattle.lists.proofs.Laws.{live-of-list, marks-of-live-nodes, list-outside-none, outside-more}
-use Rattle.boxes.specs.Box.{familyIn, kIn, lengthIn, namesIn, nodesIn, boxChecks}
+use Rattle.boxes.specs.Box.{familyIn, kIn, blockLengthIn, namesIn, nodeCountIn, boxChecks}
 use Rattle.boxes.proofs.Answers.{by-length, by-box, body-empty}
 use Rattle.boxes.proofs.Laws.{accepted-box}
 use Rattle.boxes.proofs.Proved.{body-claim, box-of-body-claim}
 use Rattle.repair.specs.declared.Session.{Session}
 use Rattle.repair.specs.declared.Started.{Started}
-use Rattle.repair.specs.Session.{started, nodesOf, noStart}
+use Rattle.repair.specs.Session.{started, nodeCountOf, noStart}
 use Rattle.repair.specs.Boxed.{checkedBox, listed}
 use Rattle.repair.specs.Claims.{StartClaim, FromStart, NoStartClaim, StartMarksClaim, WriteReadClaim, ReadKeepsClaim, ReadWriteClaim, ReadBodyClaim, WrittenBodyClaim, BoxStartClaim, WrongCountClaim}
 use Rattle.repair.proofs.Accepted.{start-accepted, check-accepted, read-accepted, write-accepted}
@@ -47,11 +47,11 @@ no-start-claim s size = (from, back)
     from e =
         let g = known s e in
         let l = live-good s in
-        let marks = marks-of-live-nodes (nodesOf s) (s .live) size (few (familyOf (s .family)) (s .k) (g .range .blocks)) (g .inside) in
+        let marks = marks-of-live-nodes (nodeCountOf s) (s .live) size (few (familyOf (s .family)) (s .k) (g .range .blocks)) (g .inside) in
         record {
-          list = liveNodes (s .live) (nodesOf s);
+          list = liveNodes (s .live) (nodeCountOf s);
           gives =
-              rw (start-0 (s .family) (s .k) (s .len) (liveNodes (s .live) (nodesOf s)) (parameters-in (s .family) (s .k) (s .len) (g .range)) (l .outside) (l .rising))
+              rw (start-0 (s .family) (s .k) (s .len) (liveNodes (s .live) (nodeCountOf s)) (parameters-in (s .family) (s .k) (s .len) (g .range)) (l .outside) (l .rising))
               (ap (λ (live : List Bool). record { refusal = 0; session = record { family = s .family; k = s .k; len = s .len; live = live } }) marks);
         }
 
@@ -61,18 +61,18 @@ no-start-claim s size = (from, back)
         let a = accepted-start (s .family) (s .k) (s .len) (f .list) e in
         let is : setLive noneLive (f .list) ≡ s .live = ap (λ (r : Started). r .session .live) (rw e at (f .gives)) in
         no-start-marks s (parameters-in (s .family) (s .k) (s .len) (a .range))
-        ∙ ap (liveOutside (nodesOf s)) (sym is)
-        ∙ list-outside-none (nodesOf s) (f .list) (few (familyOf (s .family)) (s .k) (a .range .blocks)) (a .outside)
+        ∙ ap (liveOutside (nodeCountOf s)) (sym is)
+        ∙ list-outside-none (nodeCountOf s) (f .list) (few (familyOf (s .family)) (s .k) (a .range .blocks)) (a .outside)
 
 pub box-start-claim : BoxStartClaim
 unfolding checkedBox started
 box-start-claim bytes h =
     let e = check-accepted bytes h in
     let a = accepted-box bytes e in
-    let starts = start-0 (familyIn bytes) (kIn bytes) (lengthIn bytes) (namesIn bytes) (parameters-in (familyIn bytes) (kIn bytes) (lengthIn bytes) (a .range)) (a .nodes) (a .rising) in
+    let starts = start-0 (familyIn bytes) (kIn bytes) (blockLengthIn bytes) (namesIn bytes) (parameters-in (familyIn bytes) (kIn bytes) (blockLengthIn bytes) (a .range)) (a .nodes) (a .rising) in
     let few-nodes = few (familyOf (familyIn bytes)) (kIn bytes) (a .range .blocks) in
     let live : (j : ℕ) → j < 256 → isLive (checkedBox bytes .session .live) j ≡ ltb (placeIn (namesIn bytes) j) (length (namesIn bytes))
-    = λ j l. rw e (live-of-list (namesIn bytes) j l (outside-more (nodesIn bytes) 255 (namesIn bytes) few-nodes (a .nodes))) in
+    = λ j l. rw e (live-of-list (namesIn bytes) j l (outside-more (nodeCountIn bytes) 255 (namesIn bytes) few-nodes (a .nodes))) in
     record {
       form = a;
       is = rw e;

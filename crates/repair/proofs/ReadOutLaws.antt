@@ -13,7 +13,7 @@ use Rattle.checks.specs.Checks.{_gives_, firstMet}
 use Rattle.checks.proofs.Laws.{none-append, some-append}
 use Rattle.readout.specs.DataBlocks.{dataBlocks}
 use Rattle.repair.specs.declared.Session.{Session}
-use Rattle.repair.specs.Session.{noStart, nodesOf, nodesChecks}
+use Rattle.repair.specs.Session.{noStart, nodeCountOf, nodesChecks}
 use Rattle.repair.specs.ReadOut.{missingIn, readOutChecks, readOut, objectOut}
 use Rattle.repair.proofs.StartLaws.{nodes-none}
 
@@ -37,7 +37,7 @@ module _ (s : Session) (nodes object : List ℕ) where
   pub by-nodes : (number : ℕ) → number ≡ firstMet (nodesChecks s (length nodes)) → (number ≡ 0 → ⊥) → Refused number 0
   unfolding readOutChecks nodesChecks
   by-nodes number e h =
-      refused number (some-append (nodesChecks s (length nodes)) _ (λ z. h (e ∙ z)) ∙ sym e) h (ap (λ (x : ℕ). eqb x 14) e ∙ not-14 (noStart s) (not (eqb (length nodes) (nodesOf s * s .len))))
+      refused number (some-append (nodesChecks s (length nodes)) _ (λ z. h (e ∙ z)) ∙ sym e) h (ap (λ (x : ℕ). eqb x 14) e ∙ not-14 (noStart s) (not (eqb (length nodes) (nodeCountOf s * s .len))))
 
   module _ (e : firstMet (nodesChecks s (length nodes)) ≡ 0) where
     pub by-object : (length object ≡ s .k * s .len → ⊥) → Refused 6 0

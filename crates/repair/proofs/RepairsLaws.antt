@@ -13,8 +13,8 @@ use Rattle.families.specs.Families.{familyOf, KInRange, nodeCount}
 use Rattle.families.proofs.Laws.{few}
 use Rattle.checks.specs.Checks.{firstMet}
 use Rattle.planning.specs.Plan.{planOf, repairedNodes, stepBytes}
-use Rattle.planning.specs.Planned.{plannedOf}
-use Rattle.planning.specs.Made.{nodesMade, stepsIn, AllIn}
+use Rattle.planning.specs.Inner.{plannedOf, AllIn}
+use Rattle.planning.specs.Made.{nodesMade, stepsIn}
 use Rattle.planning.specs.declared.Planned.{Planned}
 use Rattle.planning.proofs.RoundLaws.{length-bytes}
 use Rattle.planning.proofs.CarryLaws.{steps-back, all-in}
@@ -22,7 +22,7 @@ use Rattle.planning.proofs.MakeLaws.{left-few}
 use Rattle.planning.proofs.Proved.{plan-claim}
 use Rattle.repair.specs.declared.Session.{Session}
 use Rattle.repair.specs.declared.Repairs.{Repairs}
-use Rattle.repair.specs.Session.{nodesOf, noStart}
+use Rattle.repair.specs.Session.{nodeCountOf, noStart}
 use Rattle.repair.specs.Step.{withLive}
 use Rattle.repair.specs.Repairs.{planIn, repairsOf, refusedRepairs, planChecks, planned, outPlanned, runChecks, ran, nodesRan}
 
@@ -102,7 +102,7 @@ module _ (s : Session) (made : Planned) (is : made ≡ plannedOf (familyOf (s .f
     pub made-back : stepsIn bytes (made .steps) ≡ planIn s
     made-back = rw (holds, made-steps) (steps-back (planIn s) after)
 
-    pub made-in : KInRange (familyOf (s .family)) (s .k) → length (s .live) ≡ 256 → (nodes : List ℕ) → length nodes ≡ nodesOf s * s .len
+    pub made-in : KInRange (familyOf (s .family)) (s .k) → length (s .live) ≡ 256 → (nodes : List ℕ) → length nodes ≡ nodeCountOf s * s .len
         → AllIn (s .len) nodes (stepsIn bytes (made .steps))
     made-in range size nodes e =
         subst (AllIn (s .len) nodes) (sym made-back)

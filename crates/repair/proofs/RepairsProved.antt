@@ -12,11 +12,11 @@ use Rattle.planning.specs.Plan.{Step, repairedNodes, nodesLeft}
 use Rattle.planning.proofs.CarryLaws.{steps-back}
 use Rattle.planning.proofs.Proved.{plan-claim}
 use Rattle.repair.specs.declared.Session.{Session}
-use Rattle.repair.specs.Session.{nodesOf}
+use Rattle.repair.specs.Session.{nodeCountOf}
 use Rattle.repair.specs.ReadOut.{readOut}
 use Rattle.repair.specs.Step.{stepped}
 use Rattle.repair.specs.Repairs.{planIn, planned, outPlanned, runChecks, ran}
-use Rattle.repair.specs.Calls.{step, run, heldAfter}
+use Rattle.repair.specs.Calls.{step, run, stateAfter}
 use Rattle.repair.specs.RepairClaims.{StepClaim, StaysClaim, LiveStaysClaim, PlanWritesClaim, RunIsStepsClaim, RunEndsClaim, PlacesKeptClaim, LiveKeptClaim, RunAgainClaim, OwnClaim}
 use Rattle.repair.proofs.Accepted.{step-passed, plan-accepted, run-accepted}
 use Rattle.repair.proofs.StartLaws.{nodes-0}
@@ -70,12 +70,12 @@ run-again s size nodes a other h =
     let marks : length (next .live) ≡ 256 = rw is (length-setLive (s .live) (repairedNodes (planIn s)) ∙ size) in
     let again : firstMet (runChecks next other) ≡ 0 = nodes-0 next (length other) (ran-sized s nodes e size .starts) (rw is h) in
     let done : NoPairLeft (familyOf (next .family)) (next .k) (isLive (next .live)) = rw is (rw is at (run-ends s size nodes a)) in
-    let left : ran s nodes .left ≡ nodesLeft (next .live) (nodesOf next) = rw is (ran-left s nodes a) in
+    let left : ran s nodes .left ≡ nodesLeft (next .live) (nodeCountOf next) = rw is (ran-left s nodes a) in
     record { answer = quiet-answer next other again marks done ∙ rw left; nodes-are = quiet-nodes next other again marks done }
 
 pub own-claim : OwnClaim
 unfolding readOut
 own-claim object s nodes marks size live moves =
-    let held = heldAfter s nodes moves in
+    let held = stateAfter s nodes moves in
     let o : OwnHeld object held = own-moves object s nodes moves (record { marks = marks; size = size; live = live }) in
     record { live = o .live; out = λ result e. own-out object (held .session) (held .nodes) result o e }

@@ -17,14 +17,14 @@ use Rattle.checks.proofs.Laws.{accepted, none-zero, none-append, parameters-in}
 use Rattle.blocks.specs.Blocks.{blockOf}
 use Rattle.lists.specs.Lists.{someOutside, rises, someMissing, liveNodes}
 use Rattle.lists.proofs.Laws.{live-nodes-of-list, live-nodes-inside, live-nodes-rise, live-nodes-live, list-outside-none, rising-few}
-use Rattle.boxes.specs.Box.{familyIn, kIn, lengthIn, namesIn, bodiesIn, nodesIn, boxChecks}
+use Rattle.boxes.specs.Box.{familyIn, kIn, blockLengthIn, namesIn, bodiesIn, nodeCountIn, boxChecks}
 use Rattle.boxes.specs.Bodies.{bodiesOf, boxOf, withBodies}
-use Rattle.boxes.specs.Places.{ListIn}
+use Rattle.boxes.specs.Inner.{ListIn}
 use Rattle.boxes.specs.Claims.{AcceptedBox}
 use Rattle.boxes.proofs.Answers.{box-none}
 use Rattle.boxes.proofs.Laws.{accepted-box, box-accepted, FieldsOf, fields-of, box-of-fields, length-boxOf, length-withBodies, bodies-there, bodies-same, bodies-other, list-in}
 use Rattle.repair.specs.declared.Session.{Session}
-use Rattle.repair.specs.Session.{sessionOf, nodesOf, noStart, nodesChecks}
+use Rattle.repair.specs.Session.{sessionOf, nodeCountOf, noStart, nodesChecks}
 use Rattle.repair.specs.Boxed.{sessionIn, checkedBox, readChecks, readBox, nodesRead, listed, writtenLength, writeChecks, written, outWritten}
 use Rattle.repair.specs.Claims.{boxWritten, WrittenAgain}
 use Rattle.repair.proofs.StartLaws.{known, no-start-marks}
@@ -37,23 +37,23 @@ pub record Good (n : ℕ) (list : List ℕ) : Type 0 where
   pub rising : rises list ≡ true
 
 -- the live nodes are so, for which an empty list stands
-pub live-good : (s : Session) → Good (nodesOf s) (liveNodes (s .live) (nodesOf s))
-live-good s = record { outside = live-nodes-inside (s .live) (nodesOf s); rising = live-nodes-rise (s .live) (nodesOf s) }
+pub live-good : (s : Session) → Good (nodeCountOf s) (liveNodes (s .live) (nodeCountOf s))
+live-good s = record { outside = live-nodes-inside (s .live) (nodeCountOf s); rising = live-nodes-rise (s .live) (nodeCountOf s) }
 
-listed-good : (s : Session) (list : List ℕ) → Good (nodesOf s) list → Good (nodesOf s) (listed s list)
+listed-good : (s : Session) (list : List ℕ) → Good (nodeCountOf s) list → Good (nodeCountOf s) (listed s list)
 listed-good s [] g = live-good s
 listed-good s (j ∷ list) g = g
 
 listed-live : (s : Session) (list : List ℕ) → someMissing (s .live) list ≡ false → someMissing (s .live) (listed s list) ≡ false
-listed-live s [] m = live-nodes-live (s .live) (nodesOf s)
+listed-live s [] m = live-nodes-live (s .live) (nodeCountOf s)
 listed-live s (j ∷ list) m = m
 
 -- what an accepted write says
 pub record AcceptedWrite (s : Session) (nodes list out : List ℕ) : Type 0 where
   pub range : InRange (s .family) (s .k) (s .len)
   pub starts : noStart s ≡ false
-  pub size : length nodes ≡ nodesOf s * s .len
-  pub good : Good (nodesOf s) (listed s list)
+  pub size : length nodes ≡ nodeCountOf s * s .len
+  pub good : Good (nodeCountOf s) (listed s list)
   pub live : someMissing (s .live) (listed s list) ≡ false
   pub room : writtenLength s list ≤ length out
 
@@ -64,7 +64,7 @@ accepted-write s nodes list out e =
     record {
       range = known s (n .0) .range;
       starts = n .0;
-      size = eqb-true (length nodes) (nodesOf s * s .len) (not-false _ (n .1 .0));
+      size = eqb-true (length nodes) (nodeCountOf s * s .len) (not-false _ (n .1 .0));
       good = listed-good s list (record { outside = n .1 .1 .0; rising = not-false (rises list) (n .1 .1 .1 .0) });
       live = listed-live s list (n .1 .1 .1 .1 .0);
       room = ltb-false (length out) (writtenLength s list) (n .1 .1 .1 .1 .1 .0);
@@ -77,8 +77,8 @@ module _ (s : Session) (nodes list out : List ℕ) (e : firstMet (writeChecks s 
   says = accepted-write s nodes list out e
 
   -- a buffer of n × L bytes has the listed nodes
-  listed-in : (buffer : List ℕ) → length buffer ≡ nodesOf s * s .len → ListIn (s .len) buffer (listed s list)
-  listed-in buffer h = list-in (s .len) (nodesOf s) buffer (listed s list) h (says .good .outside)
+  listed-in : (buffer : List ℕ) → length buffer ≡ nodeCountOf s * s .len → ListIn (s .len) buffer (listed s list)
+  listed-in buffer h = list-in (s .len) (nodeCountOf s) buffer (listed s list) h (says .good .outside)
 
   -- what is left is the box of the listed nodes
   pub box-written : boxWritten s nodes list out ≡ boxOf (s .family) (s .k) (s .len) (listed s list) nodes
@@ -111,7 +111,7 @@ module _ (s : Session) (nodes list out : List ℕ) (e : firstMet (writeChecks s 
   box-passes =
       let g = says .good in
       box-accepted (s .family) (s .k) (s .len) (listed s list) nodes (says .range) (g .outside) (g .rising)
-      (rising-few (nodesOf s) (listed s list) (g .outside) (g .rising)) (says .size)
+      (rising-few (nodeCountOf s) (listed s list) (g .outside) (g .rising)) (says .size)
 
   fields : FieldsOf (s .family) (s .k) (s .len) (listed s list) nodes
   fields = fields-of (s .family) (s .k) (s .len) (listed s list) nodes
@@ -124,13 +124,13 @@ module _ (s : Session) (nodes list out : List ℕ) (e : firstMet (writeChecks s 
   unfolding checkedBox
   box-checked = ap checkedBox box-written ∙ rw (box-passes, fields .names-is, fields .length-is, fields .k-is, fields .family-is)
 
-  module _ (other : List ℕ) (h : length other ≡ nodesOf s * s .len) where
+  module _ (other : List ℕ) (h : length other ≡ nodeCountOf s * s .len) where
     reads : firstMet (readChecks (boxOf (s .family) (s .k) (s .len) (listed s list) nodes) other) ≡ 0
     unfolding readChecks firstMet
     reads =
         let box = boxOf (s .family) (s .k) (s .len) (listed s list) nodes in
         none-append (boxChecks box) _ (box-none box box-passes)
-        ∙ rw (fields .length-is, fields .k-is, fields .family-is, eq-eqb (length other) (nodesOf s * s .len) h)
+        ∙ rw (fields .length-is, fields .k-is, fields .family-is, eq-eqb (length other) (nodeCountOf s * s .len) h)
 
     -- it reads into a buffer of n × L bytes, to the session that it checks to
     pub box-reads : readBox (boxWritten s nodes list out) other ≡ checkedBox (boxWritten s nodes list out)
@@ -158,23 +158,23 @@ front-none ((false gives n) ∷ checks) later e = front-none checks later e
 -- what an accepted read says
 pub record AcceptedRead (bytes nodes : List ℕ) : Type 0 where
   pub passes : firstMet (boxChecks bytes) ≡ 0
-  pub size : length nodes ≡ nodesIn bytes * lengthIn bytes
+  pub size : length nodes ≡ nodeCountIn bytes * blockLengthIn bytes
 
 pub accepted-read : (bytes nodes : List ℕ) → firstMet (readChecks bytes nodes) ≡ 0 → AcceptedRead bytes nodes
 unfolding readChecks
 accepted-read bytes nodes e =
-    let sizes = (not (eqb (length nodes) (nodesIn bytes * lengthIn bytes)) gives 6) ∷ [] in
+    let sizes = (not (eqb (length nodes) (nodeCountIn bytes * blockLengthIn bytes)) gives 6) ∷ [] in
     let p = front-none (boxChecks bytes) sizes e in
     let n = accepted sizes refl (sym (none-append (boxChecks bytes) sizes (box-none bytes p)) ∙ e) in
     record { passes = p; size = eqb-true _ _ (not-false _ (n .0)) }
 
 -- the named nodes are what the session of an accepted box lists, by an empty list and by their own
 module _ (bytes : List ℕ) (a : AcceptedBox bytes) where
-  few-nodes : nodesIn bytes ≤ 255
+  few-nodes : nodeCountIn bytes ≤ 255
   few-nodes = few (familyOf (familyIn bytes)) (kIn bytes) (a .range .blocks)
 
   all-listed : listed (sessionIn bytes) [] ≡ namesIn bytes
-  all-listed = live-nodes-of-list (nodesIn bytes) (namesIn bytes) few-nodes (a .nodes) (a .rising)
+  all-listed = live-nodes-of-list (nodeCountIn bytes) (namesIn bytes) few-nodes (a .nodes) (a .rising)
 
   names-listed : listed (sessionIn bytes) (namesIn bytes) ≡ namesIn bytes
   names-listed = go (namesIn bytes) refl
@@ -185,13 +185,13 @@ module _ (bytes : List ℕ) (a : AcceptedBox bytes) where
 
   -- each is live there
   names-live : someMissing (sessionIn bytes .live) (namesIn bytes) ≡ false
-  names-live = rw all-listed at (live-nodes-live (sessionIn bytes .live) (nodesIn bytes))
+  names-live = rw all-listed at (live-nodes-live (sessionIn bytes .live) (nodeCountIn bytes))
 
   -- some start gives that session
   pub box-starts : noStart (sessionIn bytes) ≡ false
   box-starts =
-      no-start-marks (sessionIn bytes) (parameters-in (familyIn bytes) (kIn bytes) (lengthIn bytes) (a .range))
-      ∙ list-outside-none (nodesIn bytes) (namesIn bytes) few-nodes (a .nodes)
+      no-start-marks (sessionIn bytes) (parameters-in (familyIn bytes) (kIn bytes) (blockLengthIn bytes) (a .range))
+      ∙ list-outside-none (nodeCountIn bytes) (namesIn bytes) few-nodes (a .nodes)
 
 -- ---- and written again
 
@@ -199,34 +199,34 @@ module _ (bytes nodes : List ℕ) (e : firstMet (readChecks bytes nodes) ≡ 0) 
   passed : AcceptedBox bytes
   passed = accepted-box bytes (accepted-read bytes nodes e .passes)
 
-  names-in : ListIn (lengthIn bytes) nodes (namesIn bytes)
-  names-in = list-in (lengthIn bytes) (nodesIn bytes) nodes (namesIn bytes) (accepted-read bytes nodes e .size) (passed .nodes)
+  names-in : ListIn (blockLengthIn bytes) nodes (namesIn bytes)
+  names-in = list-in (blockLengthIn bytes) (nodeCountIn bytes) nodes (namesIn bytes) (accepted-read bytes nodes e .size) (passed .nodes)
 
   -- as many bodies as names
-  bodies-held : length (bodiesIn bytes) ≡ length (namesIn bytes) * lengthIn bytes
+  bodies-held : length (bodiesIn bytes) ≡ length (namesIn bytes) * blockLengthIn bytes
   bodies-held = rw (passed .names-size) (passed .bodies-size)
 
   -- what was read
-  pub read-is : nodesRead bytes nodes ≡ withBodies (lengthIn bytes) nodes (namesIn bytes) (bodiesIn bytes)
+  pub read-is : nodesRead bytes nodes ≡ withBodies (blockLengthIn bytes) nodes (namesIn bytes) (bodiesIn bytes)
   unfolding nodesRead
   read-is = rw e
 
-  pub read-size : length (nodesRead bytes nodes) ≡ nodesIn bytes * lengthIn bytes
-  read-size = rw read-is (length-withBodies (lengthIn bytes) nodes (namesIn bytes) (bodiesIn bytes) names-in bodies-held ∙ accepted-read bytes nodes e .size)
+  pub read-size : length (nodesRead bytes nodes) ≡ nodeCountIn bytes * blockLengthIn bytes
+  read-size = rw read-is (length-withBodies (blockLengthIn bytes) nodes (namesIn bytes) (bodiesIn bytes) names-in bodies-held ∙ accepted-read bytes nodes e .size)
 
   pub read-keeps : (j : ℕ) → 1 ≤ j → ((i : ℕ) → i < length (namesIn bytes) → getD (namesIn bytes) i 0 ≡ j → ⊥)
-      → blockOf (lengthIn bytes) (nodesRead bytes nodes) j ≡ blockOf (lengthIn bytes) nodes j
-  read-keeps j p n = rw read-is (bodies-other (lengthIn bytes) nodes (namesIn bytes) (bodiesIn bytes) j names-in bodies-held p n)
+      → blockOf (blockLengthIn bytes) (nodesRead bytes nodes) j ≡ blockOf (blockLengthIn bytes) nodes j
+  read-keeps j p n = rw read-is (bodies-other (blockLengthIn bytes) nodes (namesIn bytes) (bodiesIn bytes) j names-in bodies-held p n)
 
   module _ (byte : getD bytes 2 0 < 256) (out : List ℕ) (room : length bytes ≤ length out) where
     -- the box of what was read is the box
-    box-again : boxOf (familyIn bytes) (kIn bytes) (lengthIn bytes) (namesIn bytes) (nodesRead bytes nodes) ≡ bytes
+    box-again : boxOf (familyIn bytes) (kIn bytes) (blockLengthIn bytes) (namesIn bytes) (nodesRead bytes nodes) ≡ bytes
     box-again =
         box-of-fields bytes (nodesRead bytes nodes) byte (accepted-read bytes nodes e .passes)
-        (rw read-is (bodies-there (lengthIn bytes) nodes (namesIn bytes) (bodiesIn bytes) (passed .rising) names-in bodies-held))
+        (rw read-is (bodies-there (blockLengthIn bytes) nodes (namesIn bytes) (bodiesIn bytes) (passed .rising) names-in bodies-held))
 
     -- by a list that stands for the named nodes
-    again : (list : List ℕ) → Good (nodesIn bytes) list → someMissing (sessionIn bytes .live) list ≡ false → listed (sessionIn bytes) list ≡ namesIn bytes
+    again : (list : List ℕ) → Good (nodeCountIn bytes) list → someMissing (sessionIn bytes .live) list ≡ false → listed (sessionIn bytes) list ≡ namesIn bytes
         → WrittenAgain bytes nodes list out
     unfolding written outWritten writeChecks nodesChecks
     again list g m q =

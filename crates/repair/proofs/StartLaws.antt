@@ -15,7 +15,7 @@ use Rattle.checks.specs.Parameters.{mostL, parameterChecks}
 use Rattle.checks.proofs.Laws.{bytes-most, in-range, range-of, accepted, parameters-none, none-append, some-append}
 use Rattle.lists.specs.Lists.{someOutside, rises, listChecks, liveOutside}
 use Rattle.repair.specs.declared.Session.{Session}
-use Rattle.repair.specs.Session.{startChecks, nodesOf, noStart, nodesChecks}
+use Rattle.repair.specs.Session.{startChecks, nodeCountOf, noStart, nodesChecks}
 
 -- ---- start
 
@@ -52,24 +52,24 @@ module _ (s : Session) where
   unfolding noStart
   no-start-parameters h = simp (ne-eqb (firstMet (parameterChecks (s .family) (s .k) (s .len))) 0 h)
 
-  pub no-start-marks : firstMet (parameterChecks (s .family) (s .k) (s .len)) ≡ 0 → noStart s ≡ liveOutside (nodesOf s) (s .live)
+  pub no-start-marks : firstMet (parameterChecks (s .family) (s .k) (s .len)) ≡ 0 → noStart s ≡ liveOutside (nodeCountOf s) (s .live)
   unfolding noStart
   no-start-marks e = rw e
 
   -- a session that some start gives
   pub record Known : Type 0 where
     pub range : InRange (s .family) (s .k) (s .len)
-    pub inside : liveOutside (nodesOf s) (s .live) ≡ false
+    pub inside : liveOutside (nodeCountOf s) (s .live) ≡ false
 
   pub known : noStart s ≡ false → Known
   unfolding noStart
   known h =
-      let n = or-neither (not (eqb (firstMet (parameterChecks (s .family) (s .k) (s .len))) 0)) (liveOutside (nodesOf s) (s .live)) h in
+      let n = or-neither (not (eqb (firstMet (parameterChecks (s .family) (s .k) (s .len))) 0)) (liveOutside (nodeCountOf s) (s .live)) h in
       record { range = in-range (s .family) (s .k) (s .len) (eqb-true _ 0 (not-false _ (n .0))); inside = n .1 }
 
   -- the lengths that are compared are small
-  pub nodes-small : Known → nodesOf s * s .len ≤ 255 * mostL
-  nodes-small n = bytes-most (nodesOf s) 255 (few (familyOf (s .family)) (s .k) (n .range .blocks)) (n .range)
+  pub nodes-small : Known → nodeCountOf s * s .len ≤ 255 * mostL
+  nodes-small n = bytes-most (nodeCountOf s) 255 (few (familyOf (s .family)) (s .k) (n .range .blocks)) (n .range)
 
   pub object-small : Known → s .k * s .len ≤ 22 * mostL
   object-small n = bytes-most (s .k) 22 (short (familyOf (s .family)) (s .k) (n .range .blocks) .1) (n .range)
@@ -78,18 +78,18 @@ module _ (s : Session) where
   unfolding nodesChecks firstMet
   nodes-13 length e = rw e
 
-  pub nodes-6 : (length : ℕ) → noStart s ≡ false → (length ≡ nodesOf s * s .len → ⊥) → firstMet (nodesChecks s length) ≡ 6
+  pub nodes-6 : (length : ℕ) → noStart s ≡ false → (length ≡ nodeCountOf s * s .len → ⊥) → firstMet (nodesChecks s length) ≡ 6
   unfolding nodesChecks firstMet
-  nodes-6 length e h = simp (e, ne-eqb length (nodesOf s * s .len) h)
+  nodes-6 length e h = simp (e, ne-eqb length (nodeCountOf s * s .len) h)
 
-  pub nodes-0 : (length : ℕ) → noStart s ≡ false → length ≡ nodesOf s * s .len → firstMet (nodesChecks s length) ≡ 0
+  pub nodes-0 : (length : ℕ) → noStart s ≡ false → length ≡ nodeCountOf s * s .len → firstMet (nodesChecks s length) ≡ 0
   unfolding nodesChecks firstMet
-  nodes-0 length e h = simp (e, eq-eqb length (nodesOf s * s .len) h)
+  nodes-0 length e h = simp (e, eq-eqb length (nodeCountOf s * s .len) h)
 
   -- what an accepted nodes buffer has
   pub record Sized (length : ℕ) : Type 0 where
     pub starts : noStart s ≡ false
-    pub size : length ≡ nodesOf s * s .len
+    pub size : length ≡ nodeCountOf s * s .len
 
   pub nodes-none : (length : ℕ) → firstMet (nodesChecks s length) ≡ 0 → NoneMet (nodesChecks s length)
   unfolding nodesChecks

@@ -15,18 +15,19 @@ use Rattle.checks.proofs.Laws.{inside, outside-no, accepted, none-append, some-
 use Rattle.lists.specs.Lists.{someOutside, isLive, someMissing}
 use Rattle.lists.proofs.Laws.{outside-none}
 use Rattle.planning.specs.Plan.{Step}
-use Rattle.planning.specs.Made.{mended, StepIn}
+use Rattle.planning.specs.Made.{mended}
+use Rattle.planning.specs.Inner.{StepIn}
 use Rattle.planning.specs.Claims.{CanMake}
 use Rattle.planning.proofs.CarryLaws.{step-in}
 use Rattle.repair.specs.declared.Session.{Session}
 use Rattle.repair.specs.declared.Stepped.{Stepped}
-use Rattle.repair.specs.Session.{nodesOf, nodesChecks}
+use Rattle.repair.specs.Session.{nodeCountOf, nodesChecks}
 use Rattle.repair.specs.Step.{stepChecks, withLive, stepped, nodesStepped}
 use Rattle.repair.proofs.StartLaws.{known, nodes-none, Sized}
 
 -- a number that the test lets through is a node's
-pub node-of : (s : Session) (i : ℕ) → outside 1 (nodesOf s) i ≡ false → IsNode (familyOf (s .family)) (s .k) i
-node-of s i h = let p = inside 1 (nodesOf s) i h in record { first = p .0; last = p .1 }
+pub node-of : (s : Session) (i : ℕ) → outside 1 (nodeCountOf s) i ≡ false → IsNode (familyOf (s .family)) (s .k) i
+node-of s i h = let p = inside 1 (nodeCountOf s) i h in record { first = p .0; last = p .1 }
 
 module _ (s : Session) (nodes : List ℕ) (j a b : ℕ) where
   pub step-stops : (firstMet (nodesChecks s (length nodes)) ≡ 0 → ⊥) → firstMet (stepChecks s nodes j a b) ≡ firstMet (nodesChecks s (length nodes))
@@ -36,7 +37,7 @@ module _ (s : Session) (nodes : List ℕ) (j a b : ℕ) where
   -- 13 and 6 are not met
   pub step-rest : firstMet (nodesChecks s (length nodes)) ≡ 0
       → firstMet (stepChecks s nodes j a b) ≡ firstMet (
-      (someOutside (nodesOf s) (j ∷ a ∷ b ∷ []) gives 4)
+      (someOutside (nodeCountOf s) (j ∷ a ∷ b ∷ []) gives 4)
       ∷ (not (areRelated (familyOf (s .family)) (s .k) a b j) gives 10)
       ∷ (isLive (s .live) j gives 11)
       ∷ (someMissing (s .live) (a ∷ b ∷ []) gives 12)
@@ -76,7 +77,7 @@ module _ (s : Session) (nodes : List ℕ) (made : Step) where
   unfolding stepChecks nodesChecks someMissing
   accepted-step e =
       let n = accepted checksOf refl e in
-      let inside = outside-none (nodesOf s) (made .node ∷ made .smaller ∷ made .larger ∷ []) (n .1 .1 .0) in
+      let inside = outside-none (nodeCountOf s) (made .node ∷ made .smaller ∷ made .larger ∷ []) (n .1 .1 .0) in
       let j = inside 0 (omega arith) in
       let a = inside 1 (omega arith) in
       let b = inside 2 (omega arith) in
@@ -101,7 +102,7 @@ module _ (s : Session) (nodes : List ℕ) (made : Step) where
     unfolding stepChecks nodesChecks someOutside someMissing
     step-accepted =
         let m = w .makes in
-        let n : ℕ = nodesOf s in
+        let n : ℕ = nodeCountOf s in
         none-zero checksOf (
           w .buffer .starts,
           (

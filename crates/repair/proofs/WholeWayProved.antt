@@ -9,18 +9,19 @@ use native.Mathlib.Decide.{ℕ-discrete}
 use native.Mathlib.Omega.{arith}
 use borrow.Author.Tests.{not-false}
 use lib.ListN.{length, getD}
+use Rattle.base.specs.Ranges.{firstFrom}
 use Rattle.base.proofs.Tests.{or-neither}
 use Rattle.families.specs.declared.Family.{Family}
-use Rattle.families.specs.Families.{familyOf, IsNode, firstFrom}
+use Rattle.families.specs.Families.{familyOf, IsNode}
 use Rattle.families.proofs.Laws.{few}
-use Rattle.families.proofs.First.{first-of, first-none, Found, found, first-least}
+use Rattle.base.proofs.First.{first-of, first-none, Found, found, first-least}
 use Rattle.checks.specs.Checks.{firstMet}
 use Rattle.encoding.specs.Encode.{encodeAnswer, encoded}
 use Rattle.encoding.proofs.Answers.{accepted-call, written as encoded-is}
 use Rattle.encoding.proofs.Nodes.{buffer-block}
-use Rattle.lists.specs.Lists.{noneLive, isLive, someMissing}
+use Rattle.lists.specs.Lists.{noneLive, isLive, someMissing, isIn}
 use Rattle.lists.proofs.Laws.{length-setLive, marks-of-live-nodes, outside-none}
-use Rattle.boxes.specs.Box.{familyIn, kIn, lengthIn, namesIn, nodesIn, boxChecks}
+use Rattle.boxes.specs.Box.{familyIn, kIn, blockLengthIn, namesIn, nodeCountIn, boxChecks}
 use Rattle.boxes.proofs.Laws.{FieldsOf, fields-of}
 use Rattle.planning.specs.Pairs.{NoPairLeft}
 use Rattle.leftover.specs.Open.{Open}
@@ -29,15 +30,15 @@ use Rattle.readout.proofs.Laws.{data-node}
 use Rattle.repair.specs.declared.Session.{Session}
 use Rattle.repair.specs.declared.Started.{Started}
 use Rattle.repair.specs.declared.ReadOut.{ReadOut}
-use Rattle.repair.specs.Session.{sessionOf, started, nodesOf, nodesChecks}
+use Rattle.repair.specs.Session.{sessionOf, started, nodeCountOf, nodesChecks}
 use Rattle.repair.specs.Boxed.{checkedBox, readChecks, readBox, nodesRead, listed, writeChecks, written}
 use Rattle.repair.specs.ReadOut.{missingIn, readOut, objectOut}
 use Rattle.repair.specs.Repairs.{ran, nodesRan}
-use Rattle.repair.specs.Calls.{Move, run, sessionAfter, nodesAfter, Call, sessionAfterAll, liveAfter, Held, heldAfter}
-use Rattle.repair.specs.LeftOver.{isIn, lastSession, LeftOver}
+use Rattle.repair.specs.Calls.{Move, run, sessionAfter, nodesAfter, Call, sessionAfterAll, liveAfter, State, stateAfter}
+use Rattle.repair.specs.LeftOver.{lastSession, LeftOver}
 use Rattle.repair.specs.Claims.{boxWritten}
 use Rattle.repair.specs.RepairClaims.{LiveAreOwn, OwnClaims}
-use Rattle.repair.specs.WholeWay.{Fits, FitsClaim, WriteLiveClaim, BodiesAreOwn, OwnBoxClaim, MissingOpenClaim, LowestOpen, NoneOpen, OutWhereOpen, OutWhereLiveClaim, OutAfterRunClaim, Way, startOf, nodesEncoded, boxAway, heldAt, OnTheWay, WholeWayClaim}
+use Rattle.repair.specs.WholeWay.{Fits, FitsClaim, WriteLiveClaim, BodiesAreOwn, OwnBoxClaim, MissingOpenClaim, LowestOpen, NoneOpen, OutWhereOpen, OutWhereLiveClaim, OutAfterRunClaim, Way, startOf, nodesEncoded, boxAway, stateAt, OnTheWay, WholeWayClaim}
 use Rattle.repair.proofs.Accepted.{start-accepted, check-accepted, read-accepted, write-accepted, run-accepted}
 use Rattle.repair.proofs.StartLaws.{known, nodes-0}
 use Rattle.repair.proofs.ReadOutLaws.{by-block, accepted-out, read}
@@ -76,7 +77,7 @@ write-live-claim s nodes out size h =
     let g = known s (accepted-write s nodes [] out e .starts) in
     box-checked s nodes [] out e
     ∙ ap (λ (live : List Bool). record { refusal = 0; session = record { family = s .family; k = s .k; len = s .len; live = live } })
-    (marks-of-live-nodes (nodesOf s) (s .live) size (few (familyOf (s .family)) (s .k) (g .range .blocks)) (g .inside))
+    (marks-of-live-nodes (nodeCountOf s) (s .live) size (few (familyOf (s .family)) (s .k) (g .range .blocks)) (g .inside))
 
 -- ---- the object's own blocks
 
@@ -107,7 +108,7 @@ own-write object s nodes list out own h =
     rw is
     (λ i l.
     let m : i < length (listed s list) = omega (arith, d .held-is) in
-    let n = outside-none (nodesOf s) (listed s list) (a .good .outside) i m in
+    let n = outside-none (nodeCountOf s) (listed s list) (a .good .outside) i m in
     rw (d .names-is, d .family-is, d .k-is, d .length-is)
     (rw is at (written-body-claim s nodes list out h i m)
     ∙ own (getD (listed s list) i 0) (record { first = n .0; last = n .1 }) (live-at (s .live) (listed s list) i (a .live) m)))
@@ -297,16 +298,16 @@ out-after-run-claim family k L list h calls nodes e other result size room M som
 -- ---- the whole way
 
 -- session and buffer after calls
-held-fits : (s : Session) (nodes : List ℕ) (moves : List Move) → Fits s nodes → Fits (heldAfter s nodes moves .session) (heldAfter s nodes moves .nodes)
-unfolding heldAfter
+held-fits : (s : Session) (nodes : List ℕ) (moves : List Move) → Fits s nodes → Fits (stateAfter s nodes moves .session) (stateAfter s nodes moves .nodes)
+unfolding stateAfter
 held-fits s nodes [] f = f
 held-fits s nodes (move ∷ moves) f = held-fits (sessionAfter s nodes move) (nodesAfter s nodes move) moves (fits-call s nodes f move)
 
 -- one more run
 held-more : (s : Session) (nodes : List ℕ) (moves : List Move)
-    → heldAfter s nodes (moves ++ (run ∷ []))
-    ≡ record { session = ran (heldAfter s nodes moves .session) (heldAfter s nodes moves .nodes) .session; nodes = nodesRan (heldAfter s nodes moves .session) (heldAfter s nodes moves .nodes) }
-unfolding heldAfter
+    → stateAfter s nodes (moves ++ (run ∷ []))
+    ≡ record { session = ran (stateAfter s nodes moves .session) (stateAfter s nodes moves .nodes) .session; nodes = nodesRan (stateAfter s nodes moves .session) (stateAfter s nodes moves .nodes) }
+unfolding stateAfter
 held-more s nodes [] = refl
 held-more s nodes (move ∷ moves) = held-more (sessionAfter s nodes move) (nodesAfter s nodes move) moves
 
@@ -315,8 +316,8 @@ callsOn : Session → List ℕ → List Move → List Call
 callsOn s nodes [] = []
 callsOn s nodes (move ∷ moves) = record { nodes = nodes; move = move } ∷ callsOn (sessionAfter s nodes move) (nodesAfter s nodes move) moves
 
-held-calls : (s : Session) (nodes : List ℕ) (moves : List Move) → heldAfter s nodes moves .session ≡ sessionAfterAll s (callsOn s nodes moves)
-unfolding heldAfter sessionAfterAll callsOn
+held-calls : (s : Session) (nodes : List ℕ) (moves : List Move) → stateAfter s nodes moves .session ≡ sessionAfterAll s (callsOn s nodes moves)
+unfolding stateAfter sessionAfterAll callsOn
 held-calls s nodes [] = refl
 held-calls s nodes (move ∷ moves) = held-calls (sessionAfter s nodes move) (nodesAfter s nodes move) moves
 
@@ -326,7 +327,7 @@ module _ (bytes nodes : List ℕ) (e : firstMet (readChecks bytes nodes) ≡ 0) 
   passes = accepted-read bytes nodes e .passes
 
   abbrev from-box : Started
-  from-box = started (familyIn bytes) (kIn bytes) (lengthIn bytes) (namesIn bytes)
+  from-box = started (familyIn bytes) (kIn bytes) (blockLengthIn bytes) (namesIn bytes)
 
   starts : from-box .refusal ≡ 0
   starts = ap (λ (r : Started). r .refusal) (sym (box-start-claim bytes (checks bytes passes) .start)) ∙ checks bytes passes
@@ -337,13 +338,13 @@ module _ (bytes nodes : List ℕ) (e : firstMet (readChecks bytes nodes) ≡ 0) 
       session-read bytes nodes e ∙ ap (λ (r : Started). r .session) (sym (c .is) ∙ c .start)
 
   module _ (moves : List Move) where
-    abbrev held : Held
-    held = heldAfter (readBox bytes nodes .session) (nodesRead bytes nodes) moves
+    abbrev held : State
+    held = stateAfter (readBox bytes nodes .session) (nodesRead bytes nodes) moves
 
     abbrev calls : List Call
     calls = callsOn (readBox bytes nodes .session) (nodesRead bytes nodes) moves
 
-    held-is : held .session ≡ lastSession (familyIn bytes) (kIn bytes) (lengthIn bytes) (namesIn bytes) calls
+    held-is : held .session ≡ lastSession (familyIn bytes) (kIn bytes) (blockLengthIn bytes) (namesIn bytes) calls
     held-is = held-calls (readBox bytes nodes .session) (nodesRead bytes nodes) moves ∙ ap (λ (s : Session). sessionAfterAll s calls) session-from
 
     fits : Fits (held .session) (held .nodes)
@@ -353,16 +354,16 @@ module _ (bytes nodes : List ℕ) (e : firstMet (readChecks bytes nodes) ≡ 0) 
     read-runs = fits-claim .run (held .session) (held .nodes) fits
 
     -- what the run leaves has the box's n × L bytes
-    ran-size : length (nodesRan (held .session) (held .nodes)) ≡ nodesIn bytes * lengthIn bytes
+    ran-size : length (nodesRan (held .session) (held .nodes)) ≡ nodeCountIn bytes * blockLengthIn bytes
     ran-size =
-        let is = ran-is (familyIn bytes) (kIn bytes) (lengthIn bytes) (namesIn bytes) starts calls (held .nodes) (rw held-is at read-runs) in
+        let is = ran-is (familyIn bytes) (kIn bytes) (blockLengthIn bytes) (namesIn bytes) starts calls (held .nodes) (rw held-is at read-runs) in
         fits-call (held .session) (held .nodes) fits run .size
-        ∙ ap (λ (s : Session). nodesOf s * s .len) (ap (λ (s : Session). ran s (held .nodes) .session) held-is ∙ is)
+        ∙ ap (λ (s : Session). nodeCountOf s * s .len) (ap (λ (s : Session). ran s (held .nodes) .session) held-is ∙ is)
 
-    pub read-back : (result : List ℕ) → length result ≡ kIn bytes * lengthIn bytes → (M : ℕ) → 1 ≤ M
+    pub read-back : (result : List ℕ) → length result ≡ kIn bytes * blockLengthIn bytes → (M : ℕ) → 1 ≤ M
         → OutWhereOpen (ran (held .session) (held .nodes) .session) (nodesRan (held .session) (held .nodes)) result (namesIn bytes) M
     read-back result size M some =
-        let out = out-after-run-claim (familyIn bytes) (kIn bytes) (lengthIn bytes) (namesIn bytes) starts calls (held .nodes) (rw held-is at read-runs) (nodesRan (held .session) (held .nodes)) result ran-size size M some in
+        let out = out-after-run-claim (familyIn bytes) (kIn bytes) (blockLengthIn bytes) (namesIn bytes) starts calls (held .nodes) (rw held-is at read-runs) (nodesRan (held .session) (held .nodes)) result ran-size size M some in
         rw (sym held-is) at out
 
 module _ (way : Way) (on : OnTheWay way) (moves : List Move) where
@@ -388,12 +389,12 @@ module _ (way : Way) (on : OnTheWay way) (moves : List Move) where
   fields : FieldsOf (startOf way .session .family) (startOf way .session .k) (startOf way .session .len) (listed (startOf way .session) (way .list)) (nodesEncoded way)
   fields = fields-of (startOf way .session .family) (startOf way .session .k) (startOf way .session .len) (listed (startOf way .session) (way .list)) (nodesEncoded way)
 
-  object-is : kIn box * lengthIn box ≡ way .k * way .len
+  object-is : kIn box * blockLengthIn box ≡ way .k * way .len
   object-is =
       let is = box-written (startOf way .session) (nodesEncoded way) (way .list) (way .out) writes in
       ap₂ _*_
       (ap kIn is ∙ fields .k-is ∙ ap (λ (s : Session). s .k) start-is)
-      (ap lengthIn is ∙ fields .length-is ∙ ap (λ (s : Session). s .len) start-is)
+      (ap blockLengthIn is ∙ fields .length-is ∙ ap (λ (s : Session). s .len) start-is)
 
   -- every live block is the object's, from encode to the last call
   own : OwnClaims (way .object) read-session read-nodes moves
@@ -410,7 +411,7 @@ module _ (way : Way) (on : OnTheWay way) (moves : List Move) where
       moves
 
   back : (result : List ℕ) → length result ≡ way .k * way .len → (M : ℕ) → 1 ≤ M
-      → OutWhereOpen (ran (heldAt way moves .session) (heldAt way moves .nodes) .session) (nodesRan (heldAt way moves .session) (heldAt way moves .nodes)) result (namesIn box) M
+      → OutWhereOpen (ran (stateAt way moves .session) (stateAt way moves .nodes) .session) (nodesRan (stateAt way moves .session) (stateAt way moves .nodes)) result (namesIn box) M
   back result size M some = read-back box (way .other) reads moves result (size ∙ sym object-is) M some
 
 pub whole-way-claim : WholeWayClaim
@@ -421,6 +422,6 @@ whole-way-claim way on moves =
       out = λ result h. own way on moves .out result h;
       runs = read-runs (boxAway way) (way .other) (read-accepted (boxAway way) (way .other) (on .read)) moves;
       back = back way on moves;
-      again = subst (λ (h : Held). (result : List ℕ) → readOut (h .session) (h .nodes) result .refusal ≡ 0 → objectOut (h .session) (h .nodes) result ≡ way .object)
+      again = subst (λ (h : State). (result : List ℕ) → readOut (h .session) (h .nodes) result .refusal ≡ 0 → objectOut (h .session) (h .nodes) result ≡ way .object)
           (held-more (readBox (boxAway way) (way .other) .session) (nodesRead (boxAway way) (way .other)) moves) (own way on (moves ++ (run ∷ [])) .out);
     }

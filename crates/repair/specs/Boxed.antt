@@ -6,16 +6,16 @@ use lib.ListN.{length, drop}
 use lib.Dec.{eqb, ltb}
 use Rattle.checks.specs.Checks.{Check, _gives_, firstMet}
 use Rattle.lists.specs.Lists.{listChecks, someMissing, liveNodes}
-use Rattle.boxes.specs.Box.{familyIn, kIn, lengthIn, namesIn, bodiesIn, nodesIn, boxLength, boxChecks}
+use Rattle.boxes.specs.Box.{familyIn, kIn, blockLengthIn, namesIn, bodiesIn, nodeCountIn, boxLength, boxChecks}
 use Rattle.boxes.specs.Bodies.{boxOf, withBodies}
 use Rattle.repair.specs.declared.Session.{Session}
 use Rattle.repair.specs.declared.Started.{Started}
 use Rattle.repair.specs.declared.Written.{Written}
-use Rattle.repair.specs.Session.{sessionOf, refusedStart, nodesOf, nodesChecks}
+use Rattle.repair.specs.Session.{sessionOf, refusedStart, nodeCountOf, nodesChecks}
 
 -- the session of a box: the named nodes live
 abbrev pub sessionIn : List ℕ → Session
-sessionIn bytes = sessionOf (familyIn bytes) (kIn bytes) (lengthIn bytes) (namesIn bytes)
+sessionIn bytes = sessionOf (familyIn bytes) (kIn bytes) (blockLengthIn bytes) (namesIn bytes)
 
 -- a box that passes a list of checks gives its session
 abbrev pub boxAnswer : List ℕ → ℕ → Started
@@ -27,7 +27,7 @@ checkedBox bytes = boxAnswer bytes (firstMet (boxChecks bytes))
 
 -- reading: the box's checks, then 6
 unfoldable pub readChecks : List ℕ → List ℕ → List Check
-readChecks bytes nodes = boxChecks bytes ++ ((not (eqb (length nodes) (nodesIn bytes * lengthIn bytes)) gives 6) ∷ [])
+readChecks bytes nodes = boxChecks bytes ++ ((not (eqb (length nodes) (nodeCountIn bytes * blockLengthIn bytes)) gives 6) ∷ [])
 
 -- what reading gives
 unfoldable pub readBox : List ℕ → List ℕ → Started
@@ -35,11 +35,11 @@ readBox bytes nodes = boxAnswer bytes (firstMet (readChecks bytes nodes))
 
 -- the nodes buffer after reading: the bodies of the named nodes; places of missing nodes keep their bytes
 unfoldable pub nodesRead : List ℕ → List ℕ → List ℕ
-nodesRead bytes nodes = cond (eqb (firstMet (readChecks bytes nodes)) 0) (withBodies (lengthIn bytes) nodes (namesIn bytes) (bodiesIn bytes)) nodes
+nodesRead bytes nodes = cond (eqb (firstMet (readChecks bytes nodes)) 0) (withBodies (blockLengthIn bytes) nodes (namesIn bytes) (bodiesIn bytes)) nodes
 
 -- an empty list stands for every live node
 abbrev pub listed : Session → List ℕ → List ℕ
-listed s [] = liveNodes (s .live) (nodesOf s)
+listed s [] = liveNodes (s .live) (nodeCountOf s)
 listed s (j ∷ list) = j ∷ list
 
 -- the length of the box that is written
@@ -50,7 +50,7 @@ writtenLength s list = boxLength (length (listed s list)) (s .len)
 unfoldable pub writeChecks : Session → List ℕ → List ℕ → List ℕ → List Check
 writeChecks s nodes list out =
     nodesChecks s (length nodes)
-    ++ (listChecks (nodesOf s) list
+    ++ (listChecks (nodeCountOf s) list
     ++ ((someMissing (s .live) list gives 12)
     ∷ (ltb (length out) (writtenLength s list) gives 6)
     ∷ []))

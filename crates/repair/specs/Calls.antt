@@ -51,11 +51,11 @@ liveAfter family k L live (call ∷ calls) =
 -- ---- one nodes buffer, handed from call to call
 
 -- a session and its nodes buffer
-pub record Held : Type 0 where
+pub record State : Type 0 where
   pub session : Session
   pub nodes : List ℕ
 
 -- both after a list of steps and runs
-unfoldable pub heldAfter : Session → List ℕ → List Move → Held
-heldAfter s nodes [] = record { session = s; nodes = nodes }
-heldAfter s nodes (move ∷ moves) = heldAfter (sessionAfter s nodes move) (nodesAfter s nodes move) moves
+unfoldable pub stateAfter : Session → List ℕ → List Move → State
+stateAfter s nodes [] = record { session = s; nodes = nodes }
+stateAfter s nodes (move ∷ moves) = stateAfter (sessionAfter s nodes move) (nodesAfter s nodes move) moves

@@ -12,11 +12,11 @@ use Rattle.checks.specs.Checks.{firstMet}
 use Rattle.checks.specs.Claims.{InRange}
 use Rattle.checks.specs.Parameters.{parameterChecks}
 use Rattle.lists.specs.Lists.{someOutside, rises, isLive, placeIn}
-use Rattle.boxes.specs.Box.{familyIn, kIn, lengthIn, heldIn, zerosIn, namesIn, boxLength, bodyChecks, bodyOf}
+use Rattle.boxes.specs.Box.{familyIn, kIn, blockLengthIn, heldCountIn, zerosIn, namesIn, boxLength, bodyChecks, bodyOf}
 use Rattle.boxes.specs.Bodies.{boxOf}
 use Rattle.boxes.specs.Claims.{AcceptedBox, Named}
 use Rattle.repair.specs.declared.Session.{Session}
-use Rattle.repair.specs.Session.{sessionOf, refusedStart, started, nodesOf, noStart}
+use Rattle.repair.specs.Session.{sessionOf, refusedStart, started, nodeCountOf, noStart}
 use Rattle.repair.specs.Boxed.{sessionIn, checkedBox, readBox, nodesRead, listed, writtenLength, written, outWritten}
 
 -- ---- start
@@ -57,8 +57,8 @@ pub record WriteReadClaims (s : Session) (nodes list out : List ℕ) : Type 0 wh
   pub names : namesIn (boxWritten s nodes list out) ≡ listed s list
   pub by-list : (list ≡ [] → ⊥) → namesIn (boxWritten s nodes list out) ≡ list
   pub checks : checkedBox (boxWritten s nodes list out) ≡ record { refusal = 0; session = sessionOf (s .family) (s .k) (s .len) (listed s list) }
-  pub reads : (other : List ℕ) → length other ≡ nodesOf s * s .len → readBox (boxWritten s nodes list out) other ≡ checkedBox (boxWritten s nodes list out)
-  pub bodies : (other : List ℕ) → length other ≡ nodesOf s * s .len → (i : ℕ) → i < length (listed s list)
+  pub reads : (other : List ℕ) → length other ≡ nodeCountOf s * s .len → readBox (boxWritten s nodes list out) other ≡ checkedBox (boxWritten s nodes list out)
+  pub bodies : (other : List ℕ) → length other ≡ nodeCountOf s * s .len → (i : ℕ) → i < length (listed s list)
       → blockOf (s .len) (nodesRead (boxWritten s nodes list out) other) (getD (listed s list) i 0) ≡ blockOf (s .len) nodes (getD (listed s list) i 0)
 
 -- of every accepted write
@@ -71,7 +71,7 @@ WriteReadClaim = (s : Session) (nodes list out : List ℕ) → written s nodes l
 abbrev pub ReadKeepsClaim : Type 0
 ReadKeepsClaim = (bytes nodes : List ℕ) → readBox bytes nodes .refusal ≡ 0
     → (j : ℕ) → 1 ≤ j → ((i : ℕ) → i < length (namesIn bytes) → getD (namesIn bytes) i 0 ≡ j → ⊥)
-    → blockOf (lengthIn bytes) (nodesRead bytes nodes) j ≡ blockOf (lengthIn bytes) nodes j
+    → blockOf (blockLengthIn bytes) (nodesRead bytes nodes) j ≡ blockOf (blockLengthIn bytes) nodes j
 
 -- what was read from a box is written by a list: it is accepted, and has the length and the bytes of the box
 pub record WrittenAgain (bytes nodes list out : List ℕ) : Type 0 where
@@ -89,8 +89,8 @@ ReadWriteClaim = (bytes nodes out : List ℕ) → getD bytes 2 0 < 256 → readB
 
 -- the body of a named node is what a read puts in its place
 abbrev pub ReadBodyClaim : Type 0
-ReadBodyClaim = (bytes nodes : List ℕ) → readBox bytes nodes .refusal ≡ 0 → (i : ℕ) → i < heldIn bytes
-    → blockOf (lengthIn bytes) (nodesRead bytes nodes) (getD (namesIn bytes) i 0) ≡ bodyOf bytes (getD (namesIn bytes) i 0)
+ReadBodyClaim = (bytes nodes : List ℕ) → readBox bytes nodes .refusal ≡ 0 → (i : ℕ) → i < heldCountIn bytes
+    → blockOf (blockLengthIn bytes) (nodesRead bytes nodes) (getD (namesIn bytes) i 0) ≡ bodyOf bytes (getD (namesIn bytes) i 0)
 
 -- in a written box it is that node's block
 abbrev pub WrittenBodyClaim : Type 0
@@ -105,7 +105,7 @@ pub record BoxSession (bytes : List ℕ) : Type 0 where
   pub form : AcceptedBox bytes
   -- its session has the named nodes live, and is the one that the start with its family, k, L and node numbers gives
   pub is : checkedBox bytes ≡ record { refusal = 0; session = sessionIn bytes }
-  pub start : checkedBox bytes ≡ started (familyIn bytes) (kIn bytes) (lengthIn bytes) (namesIn bytes)
+  pub start : checkedBox bytes ≡ started (familyIn bytes) (kIn bytes) (blockLengthIn bytes) (namesIn bytes)
   -- a node not named is missing, and a named one is live
   pub named : (j : ℕ) → j < 256 → (isLive (checkedBox bytes .session .live) j ≡ true) ↔ Named bytes j
 
@@ -122,5 +122,5 @@ pub record Cut (bytes : List ℕ) : Type 0 where
 -- a page that counts E nodes with a length for another number of them, or any other length, gives 7, before any number or body is
 -- looked at
 abbrev pub WrongCountClaim : Type 0
-WrongCountClaim = (bytes : List ℕ) → 8 ≤ length bytes → firstMet (parameterChecks (familyIn bytes) (kIn bytes) (lengthIn bytes)) ≡ 0 → zerosIn bytes ≡ true
-    → (length bytes ≡ boxLength (heldIn bytes) (lengthIn bytes) → ⊥) → Cut bytes
+WrongCountClaim = (bytes : List ℕ) → 8 ≤ length bytes → firstMet (parameterChecks (familyIn bytes) (kIn bytes) (blockLengthIn bytes)) ≡ 0 → zerosIn bytes ≡ true
+    → (length bytes ≡ boxLength (heldCountIn bytes) (blockLengthIn bytes) → ⊥) → Cut bytes

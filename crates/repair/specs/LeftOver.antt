@@ -1,23 +1,17 @@
 -- What is left over (document 01): demand 3, a single claim about a whole list of calls.
 use mathlib.Core.Path.{_≡_}
-use mathlib.Core.Bool.{Bool, false}
+use mathlib.Core.Bool.{false}
 use mathlib.Core.List.{List, _∷_, _++_}
 use mathlib.Core.Logic.{_↔_}
 use Prim.Native.Nat.{ℕ, _≤_, _<_}
-use lib.Dec.{ltb}
-use lib.ListN.{length}
 use Rattle.families.specs.Families.{familyOf, IsNode}
-use Rattle.lists.specs.Lists.{placeIn, isLive}
+use Rattle.lists.specs.Lists.{isIn, isLive}
 use Rattle.planning.specs.Pairs.{NoPairLeft}
 use Rattle.leftover.specs.Open.{Open, OpenCount}
 use Rattle.repair.specs.declared.Session.{Session}
 use Rattle.repair.specs.Session.{started}
 use Rattle.repair.specs.Repairs.{planned, ran}
 use Rattle.repair.specs.Calls.{Call, run, sessionAfterAll, liveAfter}
-
--- a number is in a list of nodes
-abbrev pub isIn : List ℕ → ℕ → Bool
-isIn list j = ltb (placeIn list j) (length list)
 
 -- the session after a start and a list of calls
 abbrev pub lastSession : ℕ → ℕ → ℕ → List ℕ → List Call → Session

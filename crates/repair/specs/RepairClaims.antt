@@ -14,11 +14,11 @@ use Rattle.planning.specs.Pairs.{NoPairLeft}
 use Rattle.planning.specs.Plan.{Step}
 use Rattle.planning.specs.Made.{stepsIn}
 use Rattle.repair.specs.declared.Session.{Session}
-use Rattle.repair.specs.Session.{nodesOf, noStart}
+use Rattle.repair.specs.Session.{nodeCountOf, noStart}
 use Rattle.repair.specs.Step.{stepped}
 use Rattle.repair.specs.Repairs.{planIn, planned, outPlanned, ran, nodesRan}
 use Rattle.repair.specs.ReadOut.{readOut, objectOut}
-use Rattle.repair.specs.Calls.{Move, step, sessionAfter, heldAfter}
+use Rattle.repair.specs.Calls.{Move, step, sessionAfter, stateAfter}
 
 -- ---- step
 
@@ -27,7 +27,7 @@ use Rattle.repair.specs.Calls.{Move, step, sessionAfter, heldAfter}
 abbrev pub StepClaim : Type 0
 StepClaim = (s : Session) (nodes : List ℕ) (j a b : ℕ)
     → (stepped s nodes j a b .refusal ≡ 0)
-    ↔ ((noStart s ≡ false) × (length nodes ≡ nodesOf s * s .len)
+    ↔ ((noStart s ≡ false) × (length nodes ≡ nodeCountOf s * s .len)
     × CanMake (familyOf (s .family)) (s .k) (s .live) (record { round = 0; node = j; smaller = a; larger = b }))
 
 -- ---- marks for 0 and above n are never live
@@ -54,7 +54,7 @@ PlanWritesClaim = (s : Session) (out : List ℕ) → planned s out .refusal ≡ 
 -- an accepted run is the plan's steps made one after the other
 abbrev pub RunIsStepsClaim : Type 0
 RunIsStepsClaim = (s : Session) → length (s .live) ≡ 256 → (nodes : List ℕ) → ran s nodes .refusal ≡ 0
-    → heldAfter s nodes (map asMove (planIn s)) ≡ record { session = ran s nodes .session; nodes = nodesRan s nodes }
+    → stateAfter s nodes (map asMove (planIn s)) ≡ record { session = ran s nodes .session; nodes = nodesRan s nodes }
 
 -- after an accepted run no missing node has a related pair with both nodes live
 abbrev pub RunEndsClaim : Type 0
@@ -80,7 +80,7 @@ pub record RunAgain (s : Session) (nodes other : List ℕ) : Type 0 where
 
 abbrev pub RunAgainClaim : Type 0
 RunAgainClaim = (s : Session) → length (s .live) ≡ 256 → (nodes : List ℕ) → ran s nodes .refusal ≡ 0
-    → (other : List ℕ) → length other ≡ nodesOf s * s .len → RunAgain s nodes other
+    → (other : List ℕ) → length other ≡ nodeCountOf s * s .len → RunAgain s nodes other
 
 -- ---- the object's own blocks (demand 2)
 
@@ -93,9 +93,9 @@ LiveAreOwn object s nodes =
 -- once session and buffer have gone through a list of steps and runs, every live block is the object's, and what is read out,
 -- where that is accepted, is the object
 pub record OwnClaims (object : List ℕ) (s : Session) (nodes : List ℕ) (moves : List Move) : Type 0 where
-  pub live : LiveAreOwn object (heldAfter s nodes moves .session) (heldAfter s nodes moves .nodes)
-  pub out : (result : List ℕ) → readOut (heldAfter s nodes moves .session) (heldAfter s nodes moves .nodes) result .refusal ≡ 0
-      → objectOut (heldAfter s nodes moves .session) (heldAfter s nodes moves .nodes) result ≡ object
+  pub live : LiveAreOwn object (stateAfter s nodes moves .session) (stateAfter s nodes moves .nodes)
+  pub out : (result : List ℕ) → readOut (stateAfter s nodes moves .session) (stateAfter s nodes moves .nodes) result .refusal ≡ 0
+      → objectOut (stateAfter s nodes moves .session) (stateAfter s nodes moves .nodes) result ≡ object
 
 abbrev pub OwnClaim : Type 0
 OwnClaim = (object : List ℕ) (s : Session) (nodes : List ℕ) → length (s .live) ≡ 256 → length object ≡ s .k * s .len → LiveAreOwn object s nodes

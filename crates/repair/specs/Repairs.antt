@@ -10,7 +10,7 @@ use Rattle.planning.specs.Plan.{Step, planOf, repairedNodes, marksAfter, stepBy
 use Rattle.planning.specs.Made.{nodesMade}
 use Rattle.repair.specs.declared.Session.{Session}
 use Rattle.repair.specs.declared.Repairs.{Repairs}
-use Rattle.repair.specs.Session.{nodesOf, noStart, nodesChecks}
+use Rattle.repair.specs.Session.{nodeCountOf, noStart, nodesChecks}
 use Rattle.repair.specs.Step.{withLive}
 
 -- the plan of a session
@@ -24,7 +24,7 @@ repairsOf s next =
       refusal = 0;
       steps = length (planIn s);
       rounds = lastRound (planIn s);
-      left = nodesLeft (marksAfter (s .live) (planIn s)) (nodesOf s);
+      left = nodesLeft (marksAfter (s .live) (planIn s)) (nodeCountOf s);
       session = next;
     }
 

@@ -30,13 +30,13 @@ started family k L list =
     (refusedStart (firstMet (startChecks family k L list)))
 
 -- n of a session's family and k
-abbrev pub nodesOf : Session → ℕ
-nodesOf s = nodeCount (familyOf (s .family)) (s .k)
+abbrev pub nodeCountOf : Session → ℕ
+nodeCountOf s = nodeCount (familyOf (s .family)) (s .k)
 
 -- 13: its family, k or L is out of range, or a mark for 0 or above n is live
 unfoldable pub noStart : Session → Bool
-noStart s = not (eqb (firstMet (parameterChecks (s .family) (s .k) (s .len))) 0) || liveOutside (nodesOf s) (s .live)
+noStart s = not (eqb (firstMet (parameterChecks (s .family) (s .k) (s .len))) 0) || liveOutside (nodeCountOf s) (s .live)
 
 -- 13, then 6 where the nodes buffer is not n × L bytes: what every operation of a session on a nodes buffer begins with
 unfoldable pub nodesChecks : Session → ℕ → List Check
-nodesChecks s nodesLength = (noStart s gives 13) ∷ (not (eqb nodesLength (nodesOf s * s .len)) gives 6) ∷ []
+nodesChecks s nodesLength = (noStart s gives 13) ∷ (not (eqb nodesLength (nodeCountOf s * s .len)) gives 6) ∷ []

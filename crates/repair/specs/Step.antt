@@ -10,13 +10,13 @@ use Rattle.lists.specs.Lists.{someOutside, isLive, setLive, someMissing}
 use Rattle.planning.specs.Made.{mended}
 use Rattle.repair.specs.declared.Session.{Session}
 use Rattle.repair.specs.declared.Stepped.{Stepped}
-use Rattle.repair.specs.Session.{nodesOf, nodesChecks}
+use Rattle.repair.specs.Session.{nodeCountOf, nodesChecks}
 
 -- Step: 13, 6, 4 for any of the three, 10, 11, 12
 unfoldable pub stepChecks : Session → List ℕ → ℕ → ℕ → ℕ → List Check
 stepChecks s nodes j a b =
     nodesChecks s (length nodes)
-    ++ ((someOutside (nodesOf s) (j ∷ a ∷ b ∷ []) gives 4)
+    ++ ((someOutside (nodeCountOf s) (j ∷ a ∷ b ∷ []) gives 4)
     ∷ (not (areRelated (familyOf (s .family)) (s .k) a b j) gives 10)
     ∷ (isLive (s .live) j gives 11)
     ∷ (someMissing (s .live) (a ∷ b ∷ []) gives 12)

@@ -10,16 +10,16 @@ use Rattle.families.specs.Families.{familyOf, nodeCount, IsNode, columnOf}
 use Rattle.encoding.specs.Matrix.{nodeBlock}
 use Rattle.encoding.specs.Encode.{encodeAnswer, encoded}
 use Rattle.lists.specs.Lists.{isLive}
-use Rattle.boxes.specs.Box.{familyIn, kIn, lengthIn, heldIn, namesIn, nodesIn, boxLength, bodyOf}
+use Rattle.boxes.specs.Box.{familyIn, kIn, blockLengthIn, heldCountIn, namesIn, nodeCountIn, boxLength, bodyOf}
 use Rattle.leftover.specs.Open.{Open}
 use Rattle.readout.specs.DataBlocks.{dataNode}
 use Rattle.repair.specs.declared.Session.{Session}
 use Rattle.repair.specs.declared.Started.{Started}
-use Rattle.repair.specs.Session.{started, nodesOf, noStart}
+use Rattle.repair.specs.Session.{started, nodeCountOf, noStart}
 use Rattle.repair.specs.Boxed.{checkedBox, readBox, nodesRead, written}
 use Rattle.repair.specs.ReadOut.{readOut, objectOut}
 use Rattle.repair.specs.Repairs.{ran, nodesRan}
-use Rattle.repair.specs.Calls.{Move, sessionAfter, nodesAfter, Call, Held, heldAfter}
+use Rattle.repair.specs.Calls.{Move, sessionAfter, nodesAfter, Call, State, stateAfter}
 use Rattle.repair.specs.LeftOver.{lastSession}
 use Rattle.repair.specs.Claims.{boxWritten}
 use Rattle.repair.specs.RepairClaims.{LiveAreOwn}
@@ -30,7 +30,7 @@ use Rattle.repair.specs.RepairClaims.{LiveAreOwn}
 pub record Fits (s : Session) (nodes : List ℕ) : Type 0 where
   pub marks : length (s .live) ≡ 256
   pub starts : noStart s ≡ false
-  pub size : length nodes ≡ nodesOf s * s .len
+  pub size : length nodes ≡ nodeCountOf s * s .len
 
 -- a session of the same family, k and L
 pub record SameCode (s next : Session) : Type 0 where
@@ -44,7 +44,7 @@ pub record FitsClaim : Type 0 where
   pub start : (family k L : ℕ) (list nodes : List ℕ) → started family k L list .refusal ≡ 0 → length nodes ≡ nodeCount (familyOf family) k * L
       → Fits (started family k L list .session) nodes
   -- an accepted box is read into every buffer of n × L bytes, and gives its session
-  pub read : (bytes nodes : List ℕ) → checkedBox bytes .refusal ≡ 0 → length nodes ≡ nodesIn bytes * lengthIn bytes → readBox bytes nodes ≡ checkedBox bytes
+  pub read : (bytes nodes : List ℕ) → checkedBox bytes .refusal ≡ 0 → length nodes ≡ nodeCountIn bytes * blockLengthIn bytes → readBox bytes nodes ≡ checkedBox bytes
   -- which fits what an accepted read leaves
   pub read-fits : (bytes nodes : List ℕ) → readBox bytes nodes .refusal ≡ 0 → Fits (readBox bytes nodes .session) (nodesRead bytes nodes)
   -- a step or run, refused or not, gives back a session that fits the buffer that it leaves, of the same family, k and L
@@ -52,7 +52,7 @@ pub record FitsClaim : Type 0 where
   pub same : (s : Session) (nodes : List ℕ) (move : Move) → SameCode s (sessionAfter s nodes move)
   -- a run is accepted, and so is a write of every live node where there is room for all n
   pub run : (s : Session) (nodes : List ℕ) → Fits s nodes → ran s nodes .refusal ≡ 0
-  pub write : (s : Session) (nodes out : List ℕ) → Fits s nodes → boxLength (nodesOf s) (s .len) ≤ length out → written s nodes [] out .refusal ≡ 0
+  pub write : (s : Session) (nodes out : List ℕ) → Fits s nodes → boxLength (nodeCountOf s) (s .len) ≤ length out → written s nodes [] out .refusal ≡ 0
 
 -- the box of every live node checks to the session that it was written from
 abbrev pub WriteLiveClaim : Type 0
@@ -64,9 +64,9 @@ WriteLiveClaim = (s : Session) (nodes out : List ℕ) → length (s .live) ≡ 2
 -- every body of a box is the block that the matrix gives for the object
 abbrev pub BodiesAreOwn : List ℕ → List ℕ → Type 0
 BodiesAreOwn object bytes =
-    (i : ℕ) → i < heldIn bytes
+    (i : ℕ) → i < heldCountIn bytes
     → bodyOf bytes (getD (namesIn bytes) i 0)
-    ≡ nodeBlock (kIn bytes) (lengthIn bytes) object (columnOf (familyOf (familyIn bytes)) (kIn bytes) (getD (namesIn bytes) i 0))
+    ≡ nodeBlock (kIn bytes) (blockLengthIn bytes) object (columnOf (familyOf (familyIn bytes)) (kIn bytes) (getD (namesIn bytes) i 0))
 
 -- encode, write and read hand the object's own blocks on
 pub record OwnBoxClaim : Type 0 where
@@ -150,8 +150,8 @@ abbrev pub boxAway : Way → List ℕ
 boxAway way = boxWritten (startOf way .session) (nodesEncoded way) (way .list) (way .out)
 
 -- session and buffer once the box is read and a list of steps and runs made, refused ones included
-abbrev pub heldAt : Way → List Move → Held
-heldAt way moves = heldAfter (readBox (boxAway way) (way .other) .session) (nodesRead (boxAway way) (way .other)) moves
+abbrev pub stateAt : Way → List Move → State
+stateAt way moves = stateAfter (readBox (boxAway way) (way .other) .session) (nodesRead (boxAway way) (way .other)) moves
 
 -- encode, start, write and read are accepted
 pub record OnTheWay (way : Way) : Type 0 where
@@ -163,20 +163,20 @@ pub record OnTheWay (way : Way) : Type 0 where
 -- what holds at its end
 pub record WholeWay (way : Way) (moves : List Move) : Type 0 where
   -- every live block is the object's
-  pub live : LiveAreOwn (way .object) (heldAt way moves .session) (heldAt way moves .nodes)
+  pub live : LiveAreOwn (way .object) (stateAt way moves .session) (stateAt way moves .nodes)
   -- where read out is accepted it gives the object
-  pub out : (result : List ℕ) → readOut (heldAt way moves .session) (heldAt way moves .nodes) result .refusal ≡ 0
-      → objectOut (heldAt way moves .session) (heldAt way moves .nodes) result ≡ way .object
+  pub out : (result : List ℕ) → readOut (stateAt way moves .session) (stateAt way moves .nodes) result .refusal ≡ 0
+      → objectOut (stateAt way moves .session) (stateAt way moves .nodes) result ≡ way .object
   -- after one more run, which is accepted, that is exactly where no data block's node is open: where one is, two objects alike on
   -- every node of the box differ there
-  pub runs : ran (heldAt way moves .session) (heldAt way moves .nodes) .refusal ≡ 0
+  pub runs : ran (stateAt way moves .session) (stateAt way moves .nodes) .refusal ≡ 0
   pub back : (result : List ℕ) → length result ≡ way .k * way .len → (M : ℕ) → 1 ≤ M
-      → OutWhereOpen (ran (heldAt way moves .session) (heldAt way moves .nodes) .session) (nodesRan (heldAt way moves .session) (heldAt way moves .nodes)) result
+      → OutWhereOpen (ran (stateAt way moves .session) (stateAt way moves .nodes) .session) (nodesRan (stateAt way moves .session) (stateAt way moves .nodes)) result
       (namesIn (boxAway way)) M
   -- and then it gives the object
   pub again : (result : List ℕ)
-      → readOut (ran (heldAt way moves .session) (heldAt way moves .nodes) .session) (nodesRan (heldAt way moves .session) (heldAt way moves .nodes)) result .refusal ≡ 0
-      → objectOut (ran (heldAt way moves .session) (heldAt way moves .nodes) .session) (nodesRan (heldAt way moves .session) (heldAt way moves .nodes)) result ≡ way .object
+      → readOut (ran (stateAt way moves .session) (stateAt way moves .nodes) .session) (nodesRan (stateAt way moves .session) (stateAt way moves .nodes)) result .refusal ≡ 0
+      → objectOut (ran (stateAt way moves .session) (stateAt way moves .nodes) .session) (nodesRan (stateAt way moves .session) (stateAt way moves .nodes)) result ≡ way .object
 
 -- for every family, k, L and object, every start and list that are accepted, every buffer, and every list of steps and runs
 abbrev pub WholeWayClaim : Type 0

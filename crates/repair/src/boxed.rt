@@ -13,7 +13,7 @@ ghost use Rattle.checks.specs.Checks.{firstMet, _gives_};
 ghost use Rattle.lists.specs.Lists.{someOutside, rises, listChecks, someMissing, liveNodes};
 ghost use Rattle.boxes.specs.Box.{boxLength, boxChecks};
 ghost use Rattle.boxes.specs.Bodies.{boxOf};
-ghost use Rattle.repair.specs.Session.{nodesOf, noStart, nodesChecks};
+ghost use Rattle.repair.specs.Session.{nodeCountOf, noStart, nodesChecks};
 ghost use Rattle.repair.specs.Boxed.{sessionIn, checkedBox, readBox, nodesRead, written, outWritten};
 
 // The session of an accepted box.
@@ -21,7 +21,7 @@ fn box_session(bytes: &[u8]) -> Session
     requires { ⌜ firstMet (boxChecks (now bytes)) ≡ 0 ⌝ }
     ensures { λ r. ⌜ r ≡ sessionIn (now (bytes .entry)) ⌝ }
 {
-    let live = lists::marks_of(boxes::names(bytes));
+    let live = lists::marks_of_list(boxes::names(bytes));
     Session {
         family: boxes::family(bytes),
         k: boxes::block_count(bytes),
@@ -70,7 +70,7 @@ impl Session {
 
     // 13, 6 for the nodes, 4, 5 or 12, or 0.
     fn list_refusal(self, nodes: usize, list: &[u8]) -> u8
-        ensures { λ r. ⌜ r ≡ firstMet (nodesChecks self nodes ++ (listChecks (nodesOf self) (now (list .entry)) ++ ((someMissing (self .live) (now (list .entry)) gives 12) ∷ []))) ⌝ }
+        ensures { λ r. ⌜ r ≡ firstMet (nodesChecks self nodes ++ (listChecks (nodeCountOf self) (now (list .entry)) ++ ((someMissing (self .live) (now (list .entry)) gives 12) ∷ []))) ⌝ }
     {
         let bad = self.nodes_refusal(nodes);
         if bad != 0 {
@@ -90,8 +90,8 @@ impl Session {
 
     // The box of a rising list of live nodes, or 6 where the destination is too short.
     fn write_listed(self, nodes: &[u8], list: &[u8], out: &mut [u8]) -> Written
-        requires { ⌜ (noStart self ≡ false) × (length (now nodes) ≡ nodesOf self * self .len) ⌝ }
-        requires { ⌜ (someOutside (nodesOf self) (now list) ≡ false) × (rises (now list) ≡ true) ⌝ }
+        requires { ⌜ (noStart self ≡ false) × (length (now nodes) ≡ nodeCountOf self * self .len) ⌝ }
+        requires { ⌜ (someOutside (nodeCountOf self) (now list) ≡ false) × (rises (now list) ≡ true) ⌝ }
         ensures { λ r. ⌜ r ≡ cond (ltb (length (now (out .entry))) (boxLength (length (now (list .entry))) (self .len))) (record { refusal = 6; length = 0; session = self }) (record { refusal = 0; length = boxLength (length (now (list .entry))) (self .len); session = self }) ⌝ }
         ensures { λ _. ⌜ now (out .exit) ≡ cond (ltb (length (now (out .entry))) (boxLength (length (now (list .entry))) (self .len))) (now (out .entry)) (boxOf (self .family) (self .k) (self .len) (now (list .entry)) (now (nodes .entry)) ++ drop (boxLength (length (now (list .entry))) (self .len)) (now (out .entry))) ⌝ }
     {
@@ -114,9 +114,9 @@ impl Session {
 
     // The box of every live node, or 6 where the destination is too short.
     fn write_live(self, nodes: &[u8], out: &mut [u8]) -> Written
-        requires { ⌜ (noStart self ≡ false) × (length (now nodes) ≡ nodesOf self * self .len) ⌝ }
-        ensures { λ r. ⌜ r ≡ cond (ltb (length (now (out .entry))) (boxLength (length (liveNodes (self .live) (nodesOf self))) (self .len))) (record { refusal = 6; length = 0; session = self }) (record { refusal = 0; length = boxLength (length (liveNodes (self .live) (nodesOf self))) (self .len); session = self }) ⌝ }
-        ensures { λ _. ⌜ now (out .exit) ≡ cond (ltb (length (now (out .entry))) (boxLength (length (liveNodes (self .live) (nodesOf self))) (self .len))) (now (out .entry)) (boxOf (self .family) (self .k) (self .len) (liveNodes (self .live) (nodesOf self)) (now (nodes .entry)) ++ drop (boxLength (length (liveNodes (self .live) (nodesOf self))) (self .len)) (now (out .entry))) ⌝ }
+        requires { ⌜ (noStart self ≡ false) × (length (now nodes) ≡ nodeCountOf self * self .len) ⌝ }
+        ensures { λ r. ⌜ r ≡ cond (ltb (length (now (out .entry))) (boxLength (length (liveNodes (self .live) (nodeCountOf self))) (self .len))) (record { refusal = 6; length = 0; session = self }) (record { refusal = 0; length = boxLength (length (liveNodes (self .live) (nodeCountOf self))) (self .len); session = self }) ⌝ }
+        ensures { λ _. ⌜ now (out .exit) ≡ cond (ltb (length (now (out .entry))) (boxLength (length (liveNodes (self .live) (nodeCountOf self))) (self .len))) (now (out .entry)) (boxOf (self .family) (self .k) (self .len) (liveNodes (self .live) (nodeCountOf self)) (now (nodes .entry)) ++ drop (boxLength (length (liveNodes (self .live) (nodeCountOf self))) (self .len)) (now (out .entry))) ⌝ }
     {
         let n = families::node_count_of(self.family, self.k);
         let live = self.live;

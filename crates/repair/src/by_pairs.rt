@@ -10,7 +10,7 @@ ghost use Prim.Native.Nat.{_*_, _≤_};
 ghost use lib.ListN.{length, drop};
 ghost use Rattle.families.specs.Families.{familyOf};
 ghost use Rattle.planning.specs.Plan.{stepBytes};
-ghost use Rattle.planning.specs.Planned.{plannedOf};
+ghost use Rattle.planning.specs.Inner.{plannedOf};
 ghost use Rattle.repair.specs.Session.{noStart};
 ghost use Rattle.repair.specs.Repairs.{planIn, refusedRepairs, planned, outPlanned, ran, nodesRan};
 

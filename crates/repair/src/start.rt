@@ -40,7 +40,7 @@ impl Session {
         if bad != 0 {
             return refused(bad);
         }
-        let live = lists::marks_of(list);
+        let live = lists::marks_of_list(list);
         Started {
             refusal: 0,
             session: Session {

@@ -13,7 +13,8 @@ use lib.Signed.{ltZ, nonNeg}
 use Rattle.libc.specs.Io.{Moved}
 use Rattle.io.proofs.Counting.{counts}
 use Rattle.stdio.specs.declared.Reading.{Reading}
-use Rattle.stdio.specs.Reading.{afterRead, ReadAfter, ReadInto}
+use Rattle.stdio.specs.Reading.{afterRead, ReadInto}
+use Rattle.stdio.specs.Inner.{ReadAfter}
 
 -- an answer below 0 is a failure, any other adds its bytes
 pub after-is : (count : ℕ) (z : ℤ) → afterRead count z ≡ record { count = cond (ltZ z (pos 0)) count (count + natAbs z); failed = ltZ z (pos 0) }

@@ -1,5 +1,5 @@
 -- What reading an input gives. Assumes nothing.
-use Prim.Native.Nat.{ℕ, _+_, _≤_, _<_}
+use Prim.Native.Nat.{ℕ, _+_, _<_}
 use mathlib.Core.Path.{_≡_}
 use mathlib.Core.Bool.{true, false}
 use mathlib.Core.List.{List}
@@ -13,15 +13,6 @@ use Rattle.stdio.specs.declared.Reading.{Reading}
 unfoldable pub afterRead : ℕ → ℤ → Reading
 afterRead count (pos k) = record { count = count + k; failed = false }
 afterRead count (negsuc k) = record { count = count; failed = true }
-
--- what holds after one read more into a buffer of which `count` bytes were read before
-pub record ReadAfter (count : ℕ) (buf : List ℕ) (r : Reading) : Type 0 where
-  -- what was read before still counts
-  pub grows : count ≤ r .count
-  -- the bytes read lie within the buffer
-  pub within : r .count ≤ length buf
-  -- a read that failed adds none
-  pub none : r .failed ≡ true → r .count ≡ count
 
 -- what holds of an input that was read into a buffer
 pub record ReadInto (buf : List ℕ) (r : Reading) : Type 0 where

@@ -6,7 +6,8 @@ ghost use mathlib.Core.Path.{_≡_};
 ghost use Prim.Native.Nat.{_+_, _^_, _<_};
 ghost use lib.ListN.{length};
 ghost use lib.IntN.{natAbs};
-ghost use Rattle.stdio.specs.Reading.{afterRead, ReadAfter, ReadInto};
+ghost use Rattle.stdio.specs.Reading.{afterRead, ReadInto};
+ghost use Rattle.stdio.specs.Inner.{ReadAfter};
 
 // What was read: how many bytes stand at the front of the buffer, and whether a read failed, so that there may be more to read.
 pub struct Reading {

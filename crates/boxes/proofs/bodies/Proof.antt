@@ -11,9 +11,9 @@ use Rattle.boxes.proofs.bodies.Tie as tie
 
 returns : tie.Need-returns
 returns c =
-    let from = 8 + c .before .held .result in
+    let from = 8 + c .before .held-count .result in
     let bytes = c .before .before .before .args .bytes .now in
-    take-all (length bytes - from) (drop from bytes) (simp length-drop (omega arith)) ∙ rw (c .before .held .ensures)
+    take-all (length bytes - from) (drop from bytes) (simp length-drop (omega arith)) ∙ rw (c .before .held-count .ensures)
 
 pub bodies-spec : {M : Type 1} → statement M
 bodies-spec =

@@ -32,7 +32,7 @@ returns-4 c =
     sym (by-missing (g .bytes .now) (g .j) (passed (c .before .before .before .before .before .before .before))
     (omega arith)
     (omega (arith, c .before .before .before .before .before .node-count .ensures))
-    (omega (arith, place-is (c .before), c .before .before .before .held .ensures, c .if4 .taken)))
+    (omega (arith, place-is (c .before), c .before .before .before .held-count .ensures, c .if4 .taken)))
 
 returns-5 : tie.Need-returns-5
 returns-5 c =
@@ -40,7 +40,7 @@ returns-5 c =
     sym (by-none (g .bytes .now) (g .j) (passed (c .before .before .before .before .before .before .before))
     (omega arith)
     (omega (arith, c .before .before .before .before .before .node-count .ensures))
-    (omega (arith, place-is (c .before), c .before .before .before .held .ensures, c .if4 .left)))
+    (omega (arith, place-is (c .before), c .before .before .before .held-count .ensures, c .if4 .left)))
 
 pub body-refusal-spec : {M : Type 1} → statement M
 body-refusal-spec =

@@ -14,4 +14,4 @@ names-spec =
     (λ c. search needs)
     (λ c. search needs)
     (λ c. search needs)
-    (λ c. rw (add-sub-cancel-left 8 (c .before .held .result), c .before .held .ensures)))
+    (λ c. rw (add-sub-cancel-left 8 (c .before .held-count .result), c .before .held-count .ensures)))

@@ -18,13 +18,13 @@ copy-blocks-requires : tie.Need-copy-blocks-requires Inv-loop μ-loop
 copy-blocks-requires c κs =
     let b = c .before .before .before in
     let w = b .before .before .loop .inv in
-    let run = b .run-length .ensures in
-    (read-from w run, rw (c .wide .ensures) (read-to w run))
+    let stretch = b .stretch-length .ensures in
+    (read-from w stretch, rw (c .wide .ensures) (read-to w stretch))
 
 loop-again : tie.Need-loop-again Inv-loop μ-loop
 loop-again c =
     let b = c .before .before .before .before .before .before in
-    rw (c .before .before .copy-blocks .ensures, c .before .before .before .wide .ensures) (read-more (b .before .before .loop .inv) (b .run-length .ensures))
+    rw (c .before .before .copy-blocks .ensures, c .before .before .before .wide .ensures) (read-more (b .before .before .loop .inv) (b .stretch-length .ensures))
 
 pub read-bodies-spec : {M : Type 1} → statement M
 read-bodies-spec =

@@ -11,7 +11,7 @@ use Rattle.families.proofs.Laws.{few}
 use Rattle.families.proofs.TableLaws.{table-at}
 use Rattle.blocks.specs.Blocks.{withBlock}
 use Rattle.encoding.specs.Matrix.{nodeBlock, nodeBlocks, nodesBuffer}
-use Rattle.encoding.specs.Progress.{BeforeNode}
+use Rattle.encoding.specs.Inner.{BeforeNode}
 use Rattle.encoding.proofs.Nodes.{inside, one-more}
 use native.Mathlib.Omega.{arith}
 use Rattle.encoding.proofs.encode_nodes.Statement.{statement}

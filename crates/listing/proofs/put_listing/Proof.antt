@@ -7,7 +7,7 @@ use lib.ListN.{length}
 use Rattle.families.specs.Families.{familyOf}
 use Rattle.families.proofs.Laws.{few}
 use Rattle.lists.specs.Lists.{liveNodes}
-use Rattle.repair.specs.Session.{nodesOf}
+use Rattle.repair.specs.Session.{nodeCountOf}
 use Rattle.repair.proofs.StartLaws.{known}
 use Rattle.listing.specs.Text.{firstLine}
 use Rattle.listing.specs.Listing.{listingIn}
@@ -26,7 +26,7 @@ count-live-requires c κs =
     omega (arith, c .before .before .node-count-of .ensures, few (familyOf (s .family)) (s .k) (known s (c .before .before .before .before .pre .0) .range .blocks))
 
 -- the count is that of the listing
-live : (c : tie.After-count-live) → c .count-live .result ≡ length (liveNodes (c .before .before .before .before .before .args .session .live) (nodesOf (c .before .before .before .before .before .args .session)))
+live : (c : tie.After-count-live) → c .count-live .result ≡ length (liveNodes (c .before .before .before .before .before .args .session .live) (nodeCountOf (c .before .before .before .before .before .args .session)))
 live c = c .count-live .ensures ∙ rw (c .before .before .before .node-count-of .ensures)
 
 -- the first line leaves room for the plan

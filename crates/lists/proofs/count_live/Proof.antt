@@ -6,9 +6,10 @@ use denote.Ref.{now}
 use lib.ListN.{length, length-append}
 use native.Mathlib.Omega.{arith}
 use borrow.Author.Needs.{needs}
+use Rattle.base.specs.Ranges.{thoseFrom}
 use Rattle.lists.proofs.Laws.{live-nodes-few}
-use Rattle.lists.proofs.Walks.{nodes-more, nodes-same}
-use Rattle.lists.specs.Lists.{liveFrom, liveNodes}
+use Rattle.base.proofs.RangeLaws.{those-more, those-same}
+use Rattle.lists.specs.Lists.{isLive, liveNodes}
 use Rattle.lists.proofs.count_live.Statement.{statement}
 use Rattle.lists.proofs.count_live.Tie as tie
 
@@ -19,7 +20,7 @@ abbrev μ-loop : tie.MeasureT-loop
 μ-loop marks n count₀ j₀ count j = n - j
 
 loop-holds : tie.Need-loop-holds Inv-loop μ-loop
-unfolding liveFrom
+unfolding thoseFrom
 loop-holds c = (omega arith, refl)
 
 add-count : tie.Need-add-count Inv-loop μ-loop
@@ -29,12 +30,12 @@ loop-again : tie.Need-loop-again Inv-loop μ-loop
 loop-again c =
     let m = now (c .before .before .before .before .args .marks) in
     let l = c .before .before .before .loop in
-    (omega arith, omega (arith, ap length (nodes-more m (l .j) (c .if1 .taken)) ∙ length-append (liveNodes m (l .j)) _))
+    (omega arith, omega (arith, ap length (those-more (isLive m) (l .j) (c .if1 .taken)) ∙ length-append (liveNodes m (l .j)) _))
 
 loop-again-2 : tie.Need-loop-again-2 Inv-loop μ-loop
 loop-again-2 c =
     let l = c .before .before .before .loop in
-    (omega arith, l .inv .1 ∙ sym (ap length (nodes-same _ (l .j) (c .if1 .left))))
+    (omega arith, l .inv .1 ∙ sym (ap length (those-same _ (l .j) (c .if1 .left))))
 
 returns : tie.Need-returns Inv-loop μ-loop
 returns c =

@@ -7,9 +7,11 @@ use lib.ListN.{length, set, length-append}
 use native.Mathlib.Nat.{mod-eq-of-lt}
 use native.Mathlib.Omega.{arith}
 use borrow.Author.Needs.{needs}
+use Rattle.base.specs.Ranges.{thoseFrom}
 use Rattle.lists.proofs.Laws.{live-nodes-few}
-use Rattle.lists.proofs.Walks.{padded, pad-more, nodes-more, nodes-same}
-use Rattle.lists.specs.Lists.{liveFrom, liveNodes}
+use Rattle.lists.proofs.Walks.{padded, pad-more}
+use Rattle.base.proofs.RangeLaws.{those-more, those-same}
+use Rattle.lists.specs.Lists.{isLive, liveNodes}
 use Rattle.lists.proofs.list_live.Statement.{statement}
 use Rattle.lists.proofs.list_live.Tie as tie
 
@@ -20,7 +22,7 @@ abbrev μ-loop : tie.MeasureT-loop
 μ-loop marks n list₀ place₀ j₀ list place j = n - j
 
 loop-holds : tie.Need-loop-holds Inv-loop μ-loop
-unfolding liveFrom
+unfolding thoseFrom
 loop-holds c = ((omega arith, refl), refl)
 
 array-write-list : tie.Need-array-write-list Inv-loop μ-loop
@@ -31,7 +33,7 @@ loop-again c =
     let m = now (c .before .before .before .before .args .marks) in
     let l = c .before .before .before .loop in
     let nodes = liveNodes m (l .j) in
-    let more = nodes-more m (l .j) (c .if1 .taken) in (
+    let more = those-more (isLive m) (l .j) (c .if1 .taken) in (
       (omega arith, omega (arith, ap length more ∙ length-append nodes _)),
       rw (l .inv .1, l .inv .0 .1, more) (ap (set (padded nodes) (length nodes)) (mod-eq-of-lt (omega arith)) ∙ pad-more nodes (l .j + 1) (omega (arith, array-write-list c))),
     )
@@ -39,7 +41,7 @@ loop-again c =
 loop-again-2 : tie.Need-loop-again-2 Inv-loop μ-loop
 loop-again-2 c =
     let l = c .before .before .before .loop in
-    let same = nodes-same (now (c .before .before .before .before .args .marks)) (l .j) (c .if1 .left) in
+    let same = those-same (isLive (now (c .before .before .before .before .args .marks))) (l .j) (c .if1 .left) in
     ((omega arith, l .inv .0 .1 ∙ sym (ap length same)), l .inv .1 ∙ sym (ap padded same))
 
 returns : tie.Need-returns Inv-loop μ-loop

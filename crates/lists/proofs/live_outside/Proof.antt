@@ -6,13 +6,14 @@ use Prim.Native.Nat.{_+_, _-_}
 use denote.Ref.{now}
 use native.Mathlib.Omega.{arith}
 use borrow.Author.Needs.{needs}
-use Rattle.lists.proofs.Walks.{live-step, live-end}
-use Rattle.lists.specs.Lists.{isLive, someLive, liveOutside}
+use Rattle.base.specs.Ranges.{someFrom}
+use Rattle.base.proofs.RangeLaws.{some-step, some-end}
+use Rattle.lists.specs.Lists.{isLive, liveOutside}
 use Rattle.lists.proofs.live_outside.Statement.{statement}
 use Rattle.lists.proofs.live_outside.Tie as tie
 
 abbrev Inv-loop : tie.InvT-loop
-Inv-loop n marks j₀ j = liveOutside n marks ≡ someLive marks j (256 - j)
+Inv-loop n marks j₀ j = liveOutside n marks ≡ someFrom (isLive marks) j (256 - j)
 
 abbrev μ-loop : tie.MeasureT-loop
 μ-loop n marks j₀ j = 256 - j
@@ -27,20 +28,20 @@ loop-holds c =
     let g = c .before .before .args in
     let e : 255 - g .n ≡ 256 - (g .n + 1) = omega arith in
     let missing : isLive (now (g .marks)) 0 ≡ false = c .if1 .left in
-    simp missing (ap (someLive (now (g .marks)) (g .n + 1)) e)
+    simp missing (ap (someFrom (isLive (now (g .marks))) (g .n + 1)) e)
 
 returns-2 : tie.Need-returns-2 Inv-loop μ-loop
 returns-2 c =
     let l = c .before .before .before .loop in
-    sym (l .inv ∙ live-step _ (l .j) (omega arith) ∙ simp (c .if2 .taken))
+    sym (l .inv ∙ some-step _ 256 (l .j) (omega arith) ∙ simp (c .if2 .taken))
 
 loop-again : tie.Need-loop-again Inv-loop μ-loop
 loop-again c =
     let l = c .before .before .before .loop in
-    l .inv ∙ live-step _ (l .j) (omega arith) ∙ simp (c .if2 .left)
+    l .inv ∙ some-step _ 256 (l .j) (omega arith) ∙ simp (c .if2 .left)
 
 returns-3 : tie.Need-returns-3 Inv-loop μ-loop
-returns-3 c = sym (c .before .loop .inv ∙ live-end _ _ (c .loop-test .left))
+returns-3 c = sym (c .before .loop .inv ∙ some-end _ 256 _ (c .loop-test .left))
 
 pub live-outside-spec : {M : Type 1} → statement M
 live-outside-spec =

@@ -8,7 +8,8 @@ use lib.ListN.{length, take}
 use lib.Seq.{take-all}
 use Rattle.families.specs.Families.{nodeCount}
 use Rattle.families.proofs.Laws.{short}
-use Rattle.blocks.specs.Blocks.{InBuffer, blockOf, withBlock}
+use Rattle.blocks.specs.Blocks.{blockOf, withBlock}
+use Rattle.blocks.specs.Inner.{InBuffer}
 use Rattle.blocks.proofs.BlockLaws.{in-buffer}
 use Rattle.readout.specs.DataBlocks.{dataBlocks}
 use Rattle.readout.proofs.Laws.{one-more}

@@ -5,7 +5,7 @@ use mathlib.Core.Bool.{true, not}
 use Prim.Native.Nat.{ℕ, _+_, _-_, _≤_, _<_}
 use borrow.Author.Count.{below-more}
 use borrow.Author.Tests.{not-false}
-use Rattle.families.proofs.First.{first-of, first-none}
+use Rattle.base.proofs.First.{first-of, first-none}
 use Rattle.families.proofs.Laws.{few, short}
 use Rattle.lists.specs.Lists.{isLive}
 use Rattle.readout.specs.DataBlocks.{dataNode, missingBlock}

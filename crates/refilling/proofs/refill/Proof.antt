@@ -6,7 +6,7 @@ use Prim.Native.Nat.{_*_, _≤_}
 use native.Mathlib.Omega.{arith}
 use lib.ListN.{length}
 use Rattle.checks.specs.Parameters.{mostL}
-use Rattle.boxes.specs.Box.{lengthIn, nodesIn}
+use Rattle.boxes.specs.Box.{blockLengthIn, nodeCountIn}
 use Rattle.listing.proofs.ListingLaws.{Accepted, accepted-input, turned, answered}
 use Rattle.refilling.specs.Refilled.{refilledOf}
 use Rattle.refilling.proofs.Laws.{box, nodes-most, zeros-size, held-is, refilled-long, refilled-is}
@@ -27,13 +27,13 @@ long : (c : tie.Else1) → length (c .before .turned-away .last .1 .0) ≡ 65536
 long c = search needs
 
 -- the sizes are those of the box
-count : (c : tie.After-block-length) → c .before .node-count .result ≡ nodesIn (c .before .before .before .before .before .before .args .input .now)
+count : (c : tie.After-block-length) → c .before .node-count .result ≡ nodeCountIn (c .before .before .before .before .before .before .args .input .now)
 count c = c .before .node-count .ensures
 
-size : (c : tie.After-block-length) → c .before .node-count .result * c .block-length .result ≡ nodesIn (c .before .before .before .before .before .before .args .input .now) * lengthIn (c .before .before .before .before .before .before .args .input .now)
+size : (c : tie.After-block-length) → c .before .node-count .result * c .block-length .result ≡ nodeCountIn (c .before .before .before .before .before .before .args .input .now) * blockLengthIn (c .before .before .before .before .before .before .args .input .now)
 size c = rw (c .before .node-count .ensures, c .block-length .ensures)
 
-small : (c : tie.After-block-length) → (nodesIn (c .before .before .before .before .before .before .args .input .now) ≤ 255) × (nodesIn (c .before .before .before .before .before .before .args .input .now) * lengthIn (c .before .before .before .before .before .before .args .input .now) ≤ 255 * mostL)
+small : (c : tie.After-block-length) → (nodeCountIn (c .before .before .before .before .before .before .args .input .now) ≤ 255) × (nodeCountIn (c .before .before .before .before .before .before .args .input .now) * blockLengthIn (c .before .before .before .before .before .before .args .input .now) ≤ 255 * mostL)
 small c = nodes-most _ (accepted (c .before .before) .passes)
 
 returns : tie.Need-returns

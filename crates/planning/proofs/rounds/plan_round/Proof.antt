@@ -15,7 +15,7 @@ use Rattle.families.proofs.Laws.{few}
 use Rattle.lists.specs.Lists.{liveNodes, setLive}
 use Rattle.lists.proofs.Laws.{live-nodes-inside}
 use Rattle.planning.specs.Plan.{stepBytes}
-use Rattle.planning.specs.Search.{RoundBegins, worthTrying}
+use Rattle.planning.specs.Inner.{RoundBegins, worthTrying}
 use Rattle.planning.proofs.RoundLaws.{all-live, InRound, Next, next-none, next-some, round-none, round-some, round-room, round-more, round-done}
 use Rattle.planning.proofs.rounds.plan_round.Statement.{statement}
 use Rattle.planning.proofs.rounds.plan_round.Tie as tie
@@ -54,7 +54,7 @@ array-share-prefix-all : tie.Need-array-share-prefix-all Inv-loop μ-loop
 array-share-prefix-all c = omega (arith, prefix-size c, length-take (c .before .before .count-live .result) (c .list-live .result))
 
 worth-trying-requires : tie.Need-worth-trying-requires Inv-loop μ-loop
-worth-trying-requires c κs = (c .before .before .before .before .before .before .pre .0, rw (live-list (c .before)) (live-nodes-inside _ _))
+worth-trying-requires c κs = (c .before .before .before .before .before .before .pre .0, rw (live-list (c .before)) (live-nodes-inside (now (c .before .before .before .before .before .before .args .marks)) _))
 
 loop-holds : tie.Need-loop-holds Inv-loop μ-loop
 loop-holds c =

@@ -9,7 +9,7 @@ use Rattle.families.specs.Families.{IsNode}
 use Rattle.families.proofs.Laws.{few, column}
 use Rattle.families.proofs.TableLaws.{table-at}
 use Rattle.lists.proofs.Laws.{outside-none}
-use Rattle.planning.specs.Search.{thirdNode}
+use Rattle.planning.specs.Inner.{thirdNode}
 use Rattle.planning.proofs.PairLaws.{third-few}
 use Rattle.planning.proofs.WorthLaws.{Setting, setting-none, setting-more, setting-done}
 use Rattle.planning.proofs.worth.set_thirds.Statement.{statement}

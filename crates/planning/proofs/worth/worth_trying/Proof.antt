@@ -6,7 +6,7 @@ use borrow.Author.Tests.{lt-ltb, le-ltb}
 use borrow.Author.Needs.{needs}
 use lib.ListN.{length}
 use Rattle.families.specs.Families.{nodeCount}
-use Rattle.planning.specs.Search.{worthTrying}
+use Rattle.planning.specs.Inner.{worthTrying}
 use Rattle.planning.proofs.WorthLaws.{Reaching, reaching-none, reaching-more, reaching-done}
 use Rattle.planning.proofs.worth.worth_trying.Statement.{statement}
 use Rattle.planning.proofs.worth.worth_trying.Tie as tie

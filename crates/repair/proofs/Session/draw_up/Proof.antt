@@ -10,7 +10,7 @@ use Rattle.families.specs.declared.Family.{Family}
 use Rattle.families.specs.Families.{KInRange}
 use Rattle.families.proofs.Laws.{few}
 use Rattle.planning.specs.Plan.{planOf, stepBytes}
-use Rattle.planning.specs.Planned.{plannedOf}
+use Rattle.planning.specs.Inner.{plannedOf}
 use Rattle.repair.proofs.StartLaws.{known}
 use Rattle.repair.proofs.RepairsLaws.{made-few}
 use Rattle.repair.proofs.Session.draw_up.Statement.{statement}

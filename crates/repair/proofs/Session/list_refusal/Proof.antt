@@ -3,7 +3,7 @@
 use mathlib.Core.Path.{_≡_, sym, _∙_}
 use Rattle.checks.specs.Checks.{firstMet}
 use Rattle.lists.specs.Lists.{listChecks}
-use Rattle.repair.specs.Session.{nodesOf, nodesChecks}
+use Rattle.repair.specs.Session.{nodeCountOf, nodesChecks}
 use Rattle.repair.proofs.StartLaws.{known, sized}
 use Rattle.repair.proofs.BoxedLaws.{list-stops, list-numbers, list-12, list-0}
 use borrow.Author.Needs.{needs}
@@ -13,7 +13,7 @@ use Rattle.repair.proofs.Session.list_refusal.Tie as tie
 passed : (c : tie.Else1) → let g = c .before .before .before .args in firstMet (nodesChecks (g .self) (g .nodes)) ≡ 0
 passed c = sym (c .before .nodes-refusal .ensures) ∙ c .if1 .left
 
-numbers : (c : tie.Else2) → let g = c .before .before .before .before .before .before .args in firstMet (listChecks (nodesOf (g .self)) (g .list .now)) ≡ 0
+numbers : (c : tie.Else2) → let g = c .before .before .before .before .before .before .args in firstMet (listChecks (nodeCountOf (g .self)) (g .list .now)) ≡ 0
 numbers c = sym (rw (c .before .before .node-count-of .ensures) at (c .before .list-refusal .ensures)) ∙ c .if2 .left
 
 returns : tie.Need-returns

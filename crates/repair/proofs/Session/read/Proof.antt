@@ -6,7 +6,7 @@ use native.Mathlib.Omega.{arith}
 use Rattle.checks.proofs.Laws.{bytes-most}
 use Rattle.families.proofs.Laws.{few}
 use Rattle.checks.specs.Checks.{firstMet}
-use Rattle.boxes.specs.Box.{boxChecks, lengthIn, namesIn, nodesIn}
+use Rattle.boxes.specs.Box.{boxChecks, blockLengthIn, namesIn, nodeCountIn}
 use Rattle.boxes.specs.Claims.{AcceptedBox}
 use Rattle.boxes.proofs.Laws.{accepted-box, has-names, list-in}
 use Rattle.repair.proofs.BoxedLaws.{read-by-box, read-by-nodes, read-done}
@@ -21,7 +21,7 @@ passed c = sym (c .before .box-refusal .ensures) ∙ c .if1 .left
 box : (c : tie.Else1) → AcceptedBox (c .before .before .before .before .args .bytes .now)
 box c = accepted-box _ (passed c)
 
-size : (c : tie.After-node-count) → let b = c .before .before .before .before .before .before .args .bytes .now in c .node-count .result * c .before .block-length .result ≡ nodesIn b * lengthIn b
+size : (c : tie.After-node-count) → let b = c .before .before .before .before .before .before .args .bytes .now in c .node-count .result * c .before .block-length .result ≡ nodeCountIn b * blockLengthIn b
 size c = ap₂ _*_ (c .node-count .ensures) (c .before .block-length .ensures)
 
 returns : tie.Need-returns
@@ -46,7 +46,7 @@ read-bodies-requires : tie.Need-read-bodies-requires
 read-bodies-requires c κs =
     let g = c .before .before .before .before .before .before .before .before .before .before .args in
     let b = box (c .before .before .before .before .before .before) in
-    let l = list-in (lengthIn (g .bytes .now)) (nodesIn (g .bytes .now)) (g .nodes .now) (namesIn (g .bytes .now)) (c .before .before .before .if2 .left ∙ size (c .before .before .before .before)) (b .nodes) in
+    let l = list-in (blockLengthIn (g .bytes .now)) (nodeCountIn (g .bytes .now)) (g .nodes .now) (namesIn (g .bytes .now)) (c .before .before .before .if2 .left ∙ size (c .before .before .before .before)) (b .nodes) in
     rw (c .before .names .ensures, c .bodies .ensures, c .before .before .before .before .before .block-length .ensures) (l, rw (b .names-size) (b .bodies-size))
 
 returns-3 : tie.Need-returns-3

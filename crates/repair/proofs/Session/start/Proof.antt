@@ -15,7 +15,7 @@ returns c =
 
 returns-2 : tie.Need-returns-2
 unfolding started
-returns-2 c = rw (sym (c .before .before .start-refusal .ensures) ∙ c .before .if1 .left, c .marks-of .ensures)
+returns-2 c = rw (sym (c .before .before .start-refusal .ensures) ∙ c .before .if1 .left, c .marks-of-list .ensures)
 
 pub start-spec : {M : Type 1} → statement M
 start-spec =

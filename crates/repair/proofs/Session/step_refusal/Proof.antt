@@ -12,7 +12,7 @@ use Rattle.families.proofs.Laws.{few}
 use Rattle.checks.specs.Checks.{_gives_, firstMet}
 use Rattle.checks.specs.Parameters.{outside}
 use Rattle.lists.specs.Lists.{someOutside, isLive, someMissing}
-use Rattle.repair.specs.Session.{nodesOf, nodesChecks}
+use Rattle.repair.specs.Session.{nodeCountOf, nodesChecks}
 use Rattle.repair.specs.Step.{stepChecks}
 use Rattle.repair.proofs.StartLaws.{known, sized}
 use Rattle.repair.proofs.StepLaws.{node-of, step-stops, step-rest}
@@ -26,17 +26,17 @@ passed c = sym (c .before .nodes-refusal .ensures) ∙ c .if1 .left
 in-range : (c : tie.Else1) → let s = c .before .before .before .args .self in KInRange (familyOf (s .family)) (s .k)
 in-range c = known _ (sized _ _ (passed c) .starts) .range .blocks
 
-below : (c : tie.Else1) (i : ℕ) → outside 1 (nodesOf (c .before .before .before .args .self)) i ≡ false → i < 256
+below : (c : tie.Else1) (i : ℕ) → outside 1 (nodeCountOf (c .before .before .before .args .self)) i ≡ false → i < 256
 below c i h = omega (arith, node-of (c .before .before .before .args .self) i h .last, few _ _ (in-range c))
 
 -- 4 is passed, number by number
-node-inside : (c : tie.Else2) → let g = c .before .before .before .before .before .before .args in outside 1 (nodesOf (g .self)) (g .node) ≡ false
+node-inside : (c : tie.Else2) → let g = c .before .before .before .before .before .before .args in outside 1 (nodeCountOf (g .self)) (g .node) ≡ false
 node-inside c = sym (rw (c .before .before .node-count-of .ensures) at (c .before .is-outside .ensures)) ∙ c .if2 .left
 
-first-inside : (c : tie.Else3) → let g = c .before .before .before .before .before .before .before .before .args in outside 1 (nodesOf (g .self)) (g .first) ≡ false
+first-inside : (c : tie.Else3) → let g = c .before .before .before .before .before .before .before .before .args in outside 1 (nodeCountOf (g .self)) (g .first) ≡ false
 first-inside c = sym (rw (c .before .before .before .before .node-count-of .ensures) at (c .before .is-outside2 .ensures)) ∙ c .if3 .left
 
-second-inside : (c : tie.Else4) → let g = c .before .before .before .before .before .before .before .before .before .before .args in outside 1 (nodesOf (g .self)) (g .second) ≡ false
+second-inside : (c : tie.Else4) → let g = c .before .before .before .before .before .before .before .before .before .before .args in outside 1 (nodeCountOf (g .self)) (g .second) ≡ false
 second-inside c = sym (rw (c .before .before .before .before .before .before .node-count-of .ensures) at (c .before .is-outside3 .ensures)) ∙ c .if4 .left
 
 -- what is left once 4 is passed, and then once 10 is

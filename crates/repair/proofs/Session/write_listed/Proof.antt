@@ -15,7 +15,7 @@ use Rattle.lists.specs.Lists.{someOutside, rises}
 use Rattle.lists.proofs.Laws.{rising-few}
 use Rattle.boxes.proofs.Laws.{list-in}
 use Rattle.repair.specs.declared.Session.{Session}
-use Rattle.repair.specs.Session.{nodesOf}
+use Rattle.repair.specs.Session.{nodeCountOf}
 use Rattle.repair.proofs.StartLaws.{Known, known}
 use borrow.Author.Needs.{needs}
 use native.Mathlib.Omega.{arith}
@@ -23,9 +23,9 @@ use Rattle.repair.proofs.Session.write_listed.Statement.{statement}
 use Rattle.repair.proofs.Session.write_listed.Tie as tie
 
 -- a list of nodes is short, and so is its box
-bounds : (s : Session) (list : List ℕ) → Known s → someOutside (nodesOf s) list ≡ false → rises list ≡ true → (length list ≤ 255) × (length list * s .len ≤ 255 * mostL)
+bounds : (s : Session) (list : List ℕ) → Known s → someOutside (nodeCountOf s) list ≡ false → rises list ≡ true → (length list ≤ 255) × (length list * s .len ≤ 255 * mostL)
 bounds s list m o r =
-    let l : length list ≤ 255 = le-trans (rising-few (nodesOf s) list o r) (few (familyOf (s .family)) (s .k) (m .range .blocks)) in
+    let l : length list ≤ 255 = le-trans (rising-few (nodeCountOf s) list o r) (few (familyOf (s .family)) (s .k) (m .range .blocks)) in
     (l, bytes-most (length list) 255 l (m .range))
 
 small : (c : tie.After-struct-known) → let g = c .before .before .before .before .args in (length (g .list .now) ≤ 255) × (length (g .list .now) * g .self .len ≤ 255 * mostL)
@@ -41,7 +41,7 @@ write-box-requires c κs =
     let m = known (g .self) (p .0 .0) in
     let b = bounds (g .self) (g .list .now) m (p .1 .0) (p .1 .1) in
     let k = short _ _ (m .range .blocks) in
-    ((omega (arith, m .range .last), omega (arith, k), omega (arith, m .range .most), omega (arith, b .0)), (list-in (g .self .len) (nodesOf (g .self)) (g .nodes .now) (g .list .now) (p .0 .1) (p .1 .0), c .before .if1 .left))
+    ((omega (arith, m .range .last), omega (arith, k), omega (arith, m .range .most), omega (arith, b .0)), (list-in (g .self .len) (nodeCountOf (g .self)) (g .nodes .now) (g .list .now) (p .0 .1) (p .1 .0), c .before .if1 .left))
 
 returns-2 : tie.Need-returns-2
 returns-2 c = (simp (le-ltb _ _ (c .before .before .before .before .if1 .left)), simp (le-ltb _ _ (c .before .before .before .before .if1 .left)) (c .before .before .write-box .ensures))

@@ -14,4 +14,4 @@ box-session-spec =
     (λ c κs. has-names _ (c .before .before .before .pre) .0)
     (λ c κs. has-names _ (c .before .before .before .before .pre) .0)
     (λ c κs. has-names _ (c .before .before .before .before .before .pre) .0)
-    (λ c. rw (c .block-length .ensures, c .before .block-count .ensures, c .before .before .family .ensures, c .before .before .before .marks-of .ensures, c .before .before .before .before .names .ensures)))
+    (λ c. rw (c .block-length .ensures, c .before .block-count .ensures, c .before .before .family .ensures, c .before .before .before .marks-of-list .ensures, c .before .before .before .before .names .ensures)))

@@ -4,4 +4,4 @@ use Rattle.mogtriz.proofs.sessions.MarkedSession.session.Statement.{sta
 use Rattle.mogtriz.proofs.sessions.MarkedSession.session.Tie as tie
 
 pub session-spec : {M : Type 1} → statement M
-session-spec = tie.close (tie.spec (λ c κs. tt) (λ c. rw (c .marks-of .ensures)))
+session-spec = tie.close (tie.spec (λ c κs. tt) (λ c. rw (c .marks-of-bytes .ensures)))

@@ -1,4 +1,4 @@
--- `lists::marks_of` meets its contract: before each turn the nodes left, set live in the marks, make the whole list's marks.
+-- `lists::marks_of_list` meets its contract: before each turn the nodes left, set live in the marks, make the whole list's marks.
 -- Assumes nothing.
 use mathlib.Core.Path.{_≡_, refl, sym, _∙_}
 use Prim.Native.Nat.{_-_}
@@ -8,8 +8,8 @@ use native.Mathlib.Omega.{arith}
 use borrow.Author.Needs.{needs}
 use Rattle.lists.proofs.Walks.{set-step, set-end}
 use Rattle.lists.specs.Lists.{setLive, noneLive}
-use Rattle.lists.proofs.marks_of.Statement.{statement}
-use Rattle.lists.proofs.marks_of.Tie as tie
+use Rattle.lists.proofs.marks_of_list.Statement.{statement}
+use Rattle.lists.proofs.marks_of_list.Tie as tie
 
 abbrev Inv-loop : tie.InvT-loop
 Inv-loop list marks₀ i₀ marks i = (setLive noneLive list ≡ setLive marks (drop i list)) × (length marks ≡ 256)
@@ -29,8 +29,8 @@ loop-again c =
 returns : tie.Need-returns Inv-loop μ-loop
 returns c = sym (c .before .loop .inv .0 ∙ set-end _ _ (c .loop-test .left) _)
 
-pub marks-of-spec : {M : Type 1} → statement M
-marks-of-spec =
+pub marks-of-list-spec : {M : Type 1} → statement M
+marks-of-list-spec =
     tie.close
     (tie.spec
     Inv-loop

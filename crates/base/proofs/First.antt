@@ -5,7 +5,7 @@ use mathlib.Core.Bool.{Bool, true, false, false≢true}
 use Prim.Native.Nat.{ℕ, zero, suc, _+_, _≤_, _<_}
 use native.Mathlib.Decide.{ℕ-discrete}
 use native.Mathlib.Omega.{arith}
-use Rattle.families.specs.Families.{firstFrom}
+use Rattle.base.specs.Ranges.{firstFrom}
 
 module _ (test : ℕ → Bool) where
   pass : (j m : ℕ) → test j ≡ true → firstFrom test j (suc m) ≡ j

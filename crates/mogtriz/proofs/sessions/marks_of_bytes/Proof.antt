@@ -1,4 +1,4 @@
--- `mogtriz::sessions::marks_of` meets its contract: before each turn the marks of the bytes before j are in place.
+-- `mogtriz::sessions::marks_of_bytes` meets its contract: before each turn the marks of the bytes before j are in place.
 -- Assumes nothing.
 use mathlib.Core.Path.{_≡_, refl, _∙_, sym}
 use Prim.Native.Nat.{_-_, _≤_}
@@ -6,8 +6,8 @@ use lib.ListN.{length-map, List·getD-map}
 use Rattle.base.proofs.Fill.{filled, fill-more, fill-done}
 use Rattle.mogtriz.specs.Sessions.{markOf, marksOf}
 use native.Mathlib.Omega.{arith}
-use Rattle.mogtriz.proofs.sessions.marks_of.Statement.{statement}
-use Rattle.mogtriz.proofs.sessions.marks_of.Tie as tie
+use Rattle.mogtriz.proofs.sessions.marks_of_bytes.Statement.{statement}
+use Rattle.mogtriz.proofs.sessions.marks_of_bytes.Tie as tie
 
 abbrev Inv-loop : tie.InvT-loop
 Inv-loop bytes marks₀ j₀ marks j = (j ≤ 256) × (marks ≡ filled (marksOf bytes) marks₀ j)
@@ -28,8 +28,8 @@ returns c =
     let n = length-map b markOf in
     c .before .loop .inv .1 ∙ fill-done (marksOf b) _ (c .before .loop .j) (omega arith) (omega arith)
 
-pub marks-of-spec : {M : Type 1} → statement M
-marks-of-spec =
+pub marks-of-bytes-spec : {M : Type 1} → statement M
+marks-of-bytes-spec =
     tie.close
     (tie.spec
     Inv-loop
