@@ -1,6 +1,6 @@
 -- What the checks of a box and of a body give, check by check.
 -- Assumes nothing.
-use mathlib.Core.Path.{_≡_, refl, _∙_}
+use mathlib.Core.Path.{_≡_, refl, sym, _∙_}
 use mathlib.Core.Bool.{true, false}
 use mathlib.Core.List.{List, []}
 use Prim.Native.Nat.{ℕ, _+_, _≤_, _<_}
@@ -12,6 +12,7 @@ use Rattle.checks.specs.Checks.{Check, firstMet}
 use Rattle.checks.specs.Claims.{NoneMet}
 use Rattle.checks.specs.Parameters.{parameterChecks}
 use Rattle.checks.proofs.Laws.{accepted, parameters-none, none-zero, none-left, none-right, none-append, some-append, outside-low, outside-high, outside-no}
+use Rattle.checks.proofs.AnswerLaws.{after-served, after-refused}
 use Rattle.lists.specs.Lists.{listChecks, placeIn}
 use Rattle.boxes.specs.Box.{familyIn, kIn, blockLengthIn, heldCountIn, zerosIn, namesIn, nodeCountIn, boxLength, boxChecks, bodyChecks, bodyStart, bodyOf}
 
@@ -115,8 +116,8 @@ module _ (bytes : List ℕ) (j : ℕ) where
 
   pub body-empty : (firstMet (bodyChecks bytes j) ≡ 0 → ⊥) → bodyOf bytes j ≡ []
   unfolding bodyOf
-  body-empty n = rw (ne-eqb (firstMet (bodyChecks bytes j)) 0 n)
+  body-empty n = after-refused (bodyChecks bytes j) _ [] n
 
   pub body-part : firstMet (bodyChecks bytes j) ≡ 0 → take (blockLengthIn bytes) (drop (bodyStart bytes j) bytes) ≡ bodyOf bytes j
   unfolding bodyOf
-  body-part e = rw e
+  body-part e = sym (after-served (bodyChecks bytes j) _ [] e)

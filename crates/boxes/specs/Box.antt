@@ -1,11 +1,11 @@
 -- The box (document 01, "The box"): its fields, and the order of its checks.
 use Prim.Native.Nat.{ℕ, _+_, _*_}
-use mathlib.Core.Bool.{Bool, cond, not, _&&_}
+use mathlib.Core.Bool.{Bool, not, _&&_}
 use mathlib.Core.List.{List, [], _∷_, _++_}
 use lib.ListN.{length, getD, take, drop}
 use lib.Dec.{eqb, ltb}
 use Rattle.families.specs.Families.{familyOf, nodeCount}
-use Rattle.checks.specs.Checks.{Check, _gives_, firstMet}
+use Rattle.checks.specs.Checks.{Check, _gives_, afterwards}
 use Rattle.checks.specs.Parameters.{outside, parameterChecks}
 use Rattle.lists.specs.Lists.{listChecks, placeIn}
 
@@ -70,4 +70,4 @@ bodyStart bytes j = 8 + heldCountIn bytes + bodyPlace (namesIn bytes) j * blockL
 
 -- the body of node j: the L bytes from there; empty where it is refused
 unfoldable pub bodyOf : List ℕ → ℕ → List ℕ
-bodyOf bytes j = cond (eqb (firstMet (bodyChecks bytes j)) 0) (take (blockLengthIn bytes) (drop (bodyStart bytes j) bytes)) []
+bodyOf bytes j = afterwards (bodyChecks bytes j) (take (blockLengthIn bytes) (drop (bodyStart bytes j) bytes)) []

@@ -1,7 +1,8 @@
 -- The order of checks (document 01, "Order of checks") as data: a list of conditions, each with the number that it gives.
 use Prim.Native.Nat.{ℕ}
-use mathlib.Core.Bool.{Bool, true, false}
+use mathlib.Core.Bool.{Bool, true, false, cond}
 use mathlib.Core.List.{List, [], _∷_}
+use lib.Dec.{eqb}
 
 -- a check: where its condition is met, its number is given
 infix 30 _gives_
@@ -13,3 +14,11 @@ unfoldable pub firstMet : List Check → ℕ
 firstMet [] = 0
 firstMet ((true gives number) ∷ checks) = number
 firstMet ((false gives number) ∷ checks) = firstMet checks
+
+-- what a call gives: served where no check is met, else refused with the number of the first that is
+abbrev pub answer : {A : Type 0} → List Check → A → (ℕ → A) → A
+answer checks served refused = cond (eqb (firstMet checks) 0) served (refused (firstMet checks))
+
+-- what a lent buffer holds afterwards: what the service leaves where no check is met, else what it held
+abbrev pub afterwards : List Check → List ℕ → List ℕ → List ℕ
+afterwards checks served before = cond (eqb (firstMet checks) 0) served before

@@ -1,6 +1,6 @@
 -- What encode answers, check by check, and what that leaves in the nodes buffer.
 -- Assumes nothing.
-use mathlib.Core.Path.{_≡_, refl, _∙_}
+use mathlib.Core.Path.{_≡_, refl, sym, _∙_}
 use mathlib.Core.List.{List}
 use Prim.Native.Nat.{ℕ, _*_, _≤_}
 use borrow.Author.Tests.{eq-eqb, ne-eqb, eqb-true, not-false}
@@ -11,6 +11,7 @@ use Rattle.checks.specs.Checks.{firstMet}
 use Rattle.checks.specs.Parameters.{mostL, parameterChecks}
 use Rattle.checks.specs.Claims.{InRange}
 use Rattle.checks.proofs.Laws.{bytes-most, in-range, range-of, accepted, parameters-none, none-append, some-append}
+use Rattle.checks.proofs.AnswerLaws.{after-served, after-refused}
 use Rattle.encoding.specs.Matrix.{nodesBuffer}
 use Rattle.encoding.specs.Encode.{encodeChecks, encodeAnswer, encoded}
 
@@ -46,12 +47,12 @@ module _ (family k L object nodes : ℕ) where
 
 module _ (family k L : ℕ) (object nodes : List ℕ) where
   pub kept : (encodeAnswer family k L object nodes ≡ 0 → ⊥) → nodes ≡ encoded family k L object nodes
-  unfolding encoded
-  kept h = simp (ne-eqb (encodeAnswer family k L object nodes) 0 h)
+  unfolding encoded encodeAnswer
+  kept h = sym (after-refused (encodeChecks family k L (length object) (length nodes)) _ nodes h)
 
   pub written : encodeAnswer family k L object nodes ≡ 0 → nodesBuffer (familyOf family) k L object ≡ encoded family k L object nodes
-  unfolding encoded
-  written e = rw e
+  unfolding encoded encodeAnswer
+  written e = sym (after-served (encodeChecks family k L (length object) (length nodes)) _ nodes e)
 
   -- what an accepted call has been given
   pub record Accepted : Type 0 where

@@ -1,11 +1,11 @@
 -- Encode: its checks in document 01's order, 1, 2, 3, 6, and what it leaves in the nodes buffer.
 use Prim.Native.Nat.{ℕ, _*_}
-use mathlib.Core.Bool.{cond, not}
+use mathlib.Core.Bool.{not}
 use mathlib.Core.List.{List, [], _∷_, _++_}
 use lib.ListN.{length}
 use lib.Dec.{eqb}
 use Rattle.families.specs.Families.{familyOf, nodeCount}
-use Rattle.checks.specs.Checks.{Check, _gives_, firstMet}
+use Rattle.checks.specs.Checks.{Check, _gives_, firstMet, afterwards}
 use Rattle.checks.specs.Parameters.{parameterChecks}
 use Rattle.encoding.specs.Matrix.{nodesBuffer}
 
@@ -23,5 +23,4 @@ encodeAnswer family k L object nodes = firstMet (encodeChecks family k L (length
 
 -- the nodes buffer afterwards: all of it from the object where the call is accepted, and as it was where it is refused
 unfoldable pub encoded : ℕ → ℕ → ℕ → List ℕ → List ℕ → List ℕ
-encoded family k L object nodes =
-    cond (eqb (encodeAnswer family k L object nodes) 0) (nodesBuffer (familyOf family) k L object) nodes
+encoded family k L object nodes = afterwards (encodeChecks family k L (length object) (length nodes)) (nodesBuffer (familyOf family) k L object) nodes

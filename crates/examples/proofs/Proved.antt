@@ -53,9 +53,9 @@ unfolding runChecks
 has-plan s steps rounds left start (bytes-are, last-is, marks-are, number-is) =
     record {
       plan-gives = λ out h. sym (plan-made s out start (omega (arith, size-is)) .answer-is) ∙ rw (plan-is, count-is, last-is, marks-are, number-is);
-      plan-writes = λ out h. sym (plan-made s out start (omega (arith, size-is)) .out-is) ∙ rw (bytes-are, size-is);
+      plan-writes = λ out h. sym (plan-made s out start (omega (arith, size-is)) .buffer-is) ∙ rw (bytes-are, size-is);
       run-gives = λ nodes h. sym (run-made s nodes (nodes-0 s (length nodes) start h) .answer-is) ∙ rw (plan-is, count-is, last-is, marks-are, number-is);
-      run-leaves = λ nodes h. sym (run-made s nodes (nodes-0 s (length nodes) start h) .nodes-are) ∙ rw plan-is;
+      run-leaves = λ nodes h. sym (run-made s nodes (nodes-0 s (length nodes) start h) .buffer-is) ∙ rw plan-is;
     }
   where
     size-is : 4 * length (planIn s) ≡ length steps

@@ -98,6 +98,6 @@ module _ (s : Session) (starts : noStart s ≡ false) (size : length (s .live) �
       let d = e ∙ sym (p .answer-is) in
       record {
         answer-is = d;
-        steps-are = rw (d, f, ← p .out-is) (steps-back (planIn s) (drop (4 * length (planIn s)) before));
+        steps-are = rw (d, f, ← p .buffer-is) (steps-back (planIn s) (drop (4 * length (planIn s)) before));
         short = rw d plan-short;
       }

@@ -8,15 +8,16 @@ use Prim.Native.Nat.{ℕ}
 use native.Mathlib.Omega.{arith}
 use borrow.Author.Tests.{ne-eqb}
 use lib.Dec.{eqb}
-use Rattle.checks.specs.Checks.{firstMet}
+use Rattle.checks.proofs.AnswerLaws.{answer-either}
 use Rattle.repair.specs.declared.Session.{Session}
 use Rattle.repair.specs.declared.Stepped.{Stepped}
 use Rattle.repair.specs.declared.Repairs.{Repairs}
 use Rattle.repair.specs.declared.Written.{Written}
-use Rattle.repair.specs.Step.{stepChecks, stepped}
-use Rattle.repair.specs.Repairs.{planChecks, planned, runChecks, ran}
-use Rattle.repair.specs.Boxed.{writeChecks, written}
-use Rattle.repair.specs.ReadOut.{readOut}
+use Rattle.repair.specs.declared.ReadOut.{ReadOut}
+use Rattle.repair.specs.Step.{stepChecks, refusedStep, stepped}
+use Rattle.repair.specs.Repairs.{refusedRepairs, planChecks, planned, runChecks, ran}
+use Rattle.repair.specs.Boxed.{writeChecks, refusedWrite, written}
+use Rattle.repair.specs.ReadOut.{readOutChecks, refusedOut, readOut}
 use Rattle.mogtriz.specs.declared.sessions.MarkedSession.{MarkedSession}
 use Rattle.mogtriz.specs.declared.repairs.StepAnswer.{StepAnswer}
 use Rattle.mogtriz.specs.declared.repairs.RepairsAnswer.{RepairsAnswer}
@@ -59,11 +60,11 @@ module _ (s : Session) where
   -- a step or a run that is refused gives the session that it got
   pub step-done : (nodes : List ℕ) (j a b : ℕ) → (stepped s nodes j a b .refusal ≡ 0) ⊎ (stepped s nodes j a b .session ≡ s)
   unfolding stepped
-  step-done nodes j a b = either (λ (r : Stepped). (r .refusal ≡ 0) ⊎ (r .session ≡ s)) (eqb (firstMet (stepChecks s nodes j a b)) 0) (inl refl) (inr refl)
+  step-done nodes j a b = answer-either (stepChecks s nodes j a b) _ (refusedStep s) (λ (r : Stepped). (r .refusal ≡ 0) ⊎ (r .session ≡ s)) (inl refl) (λ n. inr refl)
 
   pub run-done : (nodes : List ℕ) → (ran s nodes .refusal ≡ 0) ⊎ (ran s nodes .session ≡ s)
   unfolding ran
-  run-done nodes = either (λ (r : Repairs). (r .refusal ≡ 0) ⊎ (r .session ≡ s)) (eqb (firstMet (runChecks s nodes)) 0) (inl refl) (inr refl)
+  run-done nodes = answer-either (runChecks s nodes) _ (refusedRepairs s) (λ (r : Repairs). (r .refusal ≡ 0) ⊎ (r .session ≡ s)) (inl refl) (λ n. inr refl)
 
   -- so for C it does not matter which of the two is handed on
   pub handed-on : (next : Session) (refusal : ℕ) → (refusal ≡ 0) ⊎ (next ≡ s) → handedBack (sessionForC s) refusal next ≡ sessionForC next
@@ -74,12 +75,12 @@ module _ (s : Session) where
   -- plan, write and read out give it always
   pub plan-kept : (out : List ℕ) → planned s out .session ≡ s
   unfolding planned
-  plan-kept out = either (λ (r : Repairs). r .session ≡ s) (eqb (firstMet (planChecks s out)) 0) refl refl
+  plan-kept out = answer-either (planChecks s out) _ (refusedRepairs s) (λ (r : Repairs). r .session ≡ s) refl (λ n. refl)
 
   pub write-kept : (nodes list out : List ℕ) → written s nodes list out .session ≡ s
   unfolding written
-  write-kept nodes list out = either (λ (r : Written). r .session ≡ s) (eqb (firstMet (writeChecks s nodes list out)) 0) refl refl
+  write-kept nodes list out = answer-either (writeChecks s nodes list out) _ (refusedWrite s) (λ (r : Written). r .session ≡ s) refl (λ n. refl)
 
   pub read-out-kept : (nodes object : List ℕ) → readOut s nodes object .session ≡ s
   unfolding readOut
-  read-out-kept nodes object = refl
+  read-out-kept nodes object = answer-either (readOutChecks s nodes object) _ (refusedOut s) (λ (r : ReadOut). r .session ≡ s) refl (λ n. refl)

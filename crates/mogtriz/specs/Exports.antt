@@ -3,7 +3,7 @@ use Prim.Native.Nat.{ℕ}
 use mathlib.Core.Bool.{Bool, cond, _&&_}
 use lib.Dec.{eqb, leb}
 use Rattle.families.specs.Families.{familyOf, nodeCount, columnOf, nodeOf, areRelated}
-use Rattle.checks.specs.Checks.{firstMet}
+use Rattle.checks.specs.Checks.{answer}
 use Rattle.checks.specs.Parameters.{parameterChecks}
 
 -- the version of the C interface, raised when a layout or an answer changes
@@ -12,7 +12,7 @@ interfaceVersion = 1
 
 -- n; 0 where refusal 1 or 2 is due, whatever L is
 unfoldable pub nodeCountOr0 : ℕ → ℕ → ℕ
-nodeCountOr0 family k = cond (eqb (firstMet (parameterChecks family k 1)) 0) (nodeCount (familyOf family) k) 0
+nodeCountOr0 family k = answer (parameterChecks family k 1) (nodeCount (familyOf family) k) (λ number. 0)
 
 -- j is a node's number
 unfoldable pub isNode : ℕ → ℕ → ℕ → Bool

@@ -11,7 +11,7 @@ use Rattle.repair.specs.Repairs.{planned, outPlanned, ran, nodesRan}
 use Rattle.mogtriz.specs.declared.sessions.MarkedSession.{MarkedSession}
 use Rattle.mogtriz.specs.declared.repairs.StepAnswer.{StepAnswer}
 use Rattle.mogtriz.specs.declared.repairs.RepairsAnswer.{RepairsAnswer}
-use Rattle.mogtriz.specs.Sessions.{someAbove1, sessionForC, sessionOfC}
+use Rattle.mogtriz.specs.Sessions.{sessionForC, sessionOfC, answerC, afterwardsC}
 
 -- accepted, the next session; refused, the session as handed in
 unfoldable pub handedBack : MarkedSession → ℕ → Session → MarkedSession
@@ -19,39 +19,38 @@ handedBack s refusal next = cond (eqb refusal 0) (sessionForC next) s
 
 -- what a step gives, with the session handed in
 abbrev pub stepC : MarkedSession → Stepped → StepAnswer
-stepC s answer = record { refusal = answer .refusal; session = handedBack s (answer .refusal) (answer .session) }
+stepC s given = record { refusal = given .refusal; session = handedBack s (given .refusal) (given .session) }
 
 -- the numbers of a plan or run, with the session that C gets
 abbrev pub repairsC : Repairs → MarkedSession → RepairsAnswer
-repairsC answer given =
-    record { refusal = answer .refusal; steps = answer .steps; rounds = answer .rounds; left = answer .left; session = given }
+repairsC made given =
+    record { refusal = made .refusal; steps = made .steps; rounds = made .rounds; left = made .left; session = given }
 
 -- what a run gives, with the session handed in
 abbrev pub runC : MarkedSession → Repairs → RepairsAnswer
-runC s answer = repairsC answer (handedBack s (answer .refusal) (answer .session))
+runC s given = repairsC given (handedBack s (given .refusal) (given .session))
 
--- a plan or run of a session with a byte above 1
-abbrev pub markedRefusal : MarkedSession → RepairsAnswer
-markedRefusal s = record { refusal = 13; steps = 0; rounds = 0; left = 0; session = s }
+-- a refused plan or run
+abbrev pub refusedRepairsC : MarkedSession → ℕ → RepairsAnswer
+refusedRepairsC s number = record { refusal = number; steps = 0; rounds = 0; left = 0; session = s }
 
 -- a step: node j from nodes a and b
 unfoldable pub steppedC : MarkedSession → List ℕ → ℕ → ℕ → ℕ → StepAnswer
-steppedC s nodes j a b =
-    cond (someAbove1 (s .live)) (record { refusal = 13; session = s }) (stepC s (stepped (sessionOfC s) nodes j a b))
+steppedC s nodes j a b = answerC s (stepC s (stepped (sessionOfC s) nodes j a b)) (λ number. record { refusal = number; session = s })
 
 unfoldable pub nodesSteppedC : MarkedSession → List ℕ → ℕ → ℕ → ℕ → List ℕ
-nodesSteppedC s nodes j a b = cond (someAbove1 (s .live)) nodes (nodesStepped (sessionOfC s) nodes j a b)
+nodesSteppedC s nodes j a b = afterwardsC s (nodesStepped (sessionOfC s) nodes j a b) nodes
 
 -- a plan: the session stays
 unfoldable pub plannedC : MarkedSession → List ℕ → RepairsAnswer
-plannedC s out = cond (someAbove1 (s .live)) (markedRefusal s) (repairsC (planned (sessionOfC s) out) s)
+plannedC s out = answerC s (repairsC (planned (sessionOfC s) out) s) (refusedRepairsC s)
 
 unfoldable pub outPlannedC : MarkedSession → List ℕ → List ℕ
-outPlannedC s out = cond (someAbove1 (s .live)) out (outPlanned (sessionOfC s) out)
+outPlannedC s out = afterwardsC s (outPlanned (sessionOfC s) out) out
 
 -- a run: the plan's steps made
 unfoldable pub ranC : MarkedSession → List ℕ → RepairsAnswer
-ranC s nodes = cond (someAbove1 (s .live)) (markedRefusal s) (runC s (ran (sessionOfC s) nodes))
+ranC s nodes = answerC s (runC s (ran (sessionOfC s) nodes)) (refusedRepairsC s)
 
 unfoldable pub nodesRanC : MarkedSession → List ℕ → List ℕ
-nodesRanC s nodes = cond (someAbove1 (s .live)) nodes (nodesRan (sessionOfC s) nodes)
+nodesRanC s nodes = afterwardsC s (nodesRan (sessionOfC s) nodes) nodes

@@ -3,10 +3,12 @@ use Prim.Native.Nat.{ℕ}
 use mathlib.Core.Bool.{Bool, false, cond, _||_}
 use mathlib.Core.List.{List, [], _∷_, map}
 use lib.Dec.{eqb, ltb}
-use Rattle.checks.specs.Checks.{firstMet}
+use Rattle.checks.specs.Checks.{answer}
 use Rattle.boxes.specs.Box.{blockLengthIn, bodyChecks, bodyStart}
 use Rattle.repair.specs.declared.Session.{Session}
 use Rattle.repair.specs.declared.Started.{Started}
+use Rattle.repair.specs.declared.Written.{Written}
+use Rattle.repair.specs.declared.ReadOut.{ReadOut}
 use Rattle.repair.specs.Boxed.{written, outWritten}
 use Rattle.repair.specs.ReadOut.{readOut, objectOut}
 use Rattle.mogtriz.specs.declared.sessions.MarkedSession.{MarkedSession}
@@ -43,31 +45,37 @@ sessionOfC s = record { family = s .family; k = s .k; len = s .len; live = marks
 
 -- what a start or a box gives
 abbrev pub startedC : Started → StartAnswer
-startedC answer = record { refusal = answer .refusal; session = sessionForC (answer .session) }
+startedC given = record { refusal = given .refusal; session = sessionForC (given .session) }
 
--- writing: 13 for a byte above 1, else as for the session; the session stays
+-- C's own 13: a session with a byte above 1 is turned away, and any other is served as the session's own operation serves it
+abbrev pub answerC : {A : Type 0} → MarkedSession → A → (ℕ → A) → A
+answerC s served refused = cond (someAbove1 (s .live)) (refused 13) served
+
+-- turned away, a lent buffer holds what it held
+abbrev pub afterwardsC : MarkedSession → List ℕ → List ℕ → List ℕ
+afterwardsC s served before = cond (someAbove1 (s .live)) before served
+
+-- writing: the session stays
+abbrev pub writeC : MarkedSession → Written → WriteAnswer
+writeC s given = record { refusal = given .refusal; length = given .length; session = s }
+
 unfoldable pub writtenC : MarkedSession → List ℕ → List ℕ → List ℕ → WriteAnswer
-writtenC s nodes list out =
-    cond (someAbove1 (s .live))
-    (record { refusal = 13; length = 0; session = s })
-    (record { refusal = written (sessionOfC s) nodes list out .refusal; length = written (sessionOfC s) nodes list out .length; session = s })
+writtenC s nodes list out = answerC s (writeC s (written (sessionOfC s) nodes list out)) (λ number. record { refusal = number; length = 0; session = s })
 
 unfoldable pub outWrittenC : MarkedSession → List ℕ → List ℕ → List ℕ → List ℕ
-outWrittenC s nodes list out = cond (someAbove1 (s .live)) out (outWritten (sessionOfC s) nodes list out)
+outWrittenC s nodes list out = afterwardsC s (outWritten (sessionOfC s) nodes list out) out
 
 -- reading out likewise
+abbrev pub outC : MarkedSession → ReadOut → ReadOutAnswer
+outC s given = record { refusal = given .refusal; block = given .block; session = s }
+
 unfoldable pub readOutC : MarkedSession → List ℕ → List ℕ → ReadOutAnswer
-readOutC s nodes object =
-    cond (someAbove1 (s .live))
-    (record { refusal = 13; block = 0; session = s })
-    (record { refusal = readOut (sessionOfC s) nodes object .refusal; block = readOut (sessionOfC s) nodes object .block; session = s })
+readOutC s nodes object = answerC s (outC s (readOut (sessionOfC s) nodes object)) (λ number. record { refusal = number; block = 0; session = s })
 
 unfoldable pub objectOutC : MarkedSession → List ℕ → List ℕ → List ℕ
-objectOutC s nodes object = cond (someAbove1 (s .live)) object (objectOut (sessionOfC s) nodes object)
+objectOutC s nodes object = afterwardsC s (objectOut (sessionOfC s) nodes object) object
 
 -- the part of a box that is the body of node j: L bytes from its place among the bodies; 0 and 0 where it is refused
 unfoldable pub partIn : List ℕ → ℕ → Part
 partIn bytes j =
-    cond (eqb (firstMet (bodyChecks bytes j)) 0)
-    (record { refusal = 0; from = bodyStart bytes j; length = blockLengthIn bytes })
-    (record { refusal = firstMet (bodyChecks bytes j); from = 0; length = 0 })
+    answer (bodyChecks bytes j) (record { refusal = 0; from = bodyStart bytes j; length = blockLengthIn bytes }) (λ number. record { refusal = number; from = 0; length = 0 })

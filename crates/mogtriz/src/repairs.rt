@@ -5,7 +5,7 @@ use crate::sessions::marked;
 use repair::Repairs;
 use repair::Session;
 ghost use mathlib.Core.Path.{_≡_};
-ghost use Rattle.mogtriz.specs.Repairs.{handedBack, repairsC, markedRefusal, steppedC, nodesSteppedC, plannedC, outPlannedC, ranC, nodesRanC};
+ghost use Rattle.mogtriz.specs.Repairs.{handedBack, repairsC, refusedRepairsC, steppedC, nodesSteppedC, plannedC, outPlannedC, ranC, nodesRanC};
 
 // C's mogtriz_stepped.
 #[repr(C)]
@@ -49,7 +49,7 @@ fn repairs_for_c(answer: Repairs, session: MarkedSession) -> RepairsAnswer
 
 // A plan or run of a session with a byte above 1.
 fn refused_for_marks(session: MarkedSession) -> RepairsAnswer
-    ensures { λ r. ⌜ r ≡ markedRefusal session ⌝ }
+    ensures { λ r. ⌜ r ≡ refusedRepairsC session 13 ⌝ }
 {
     RepairsAnswer {
         refusal: 13,

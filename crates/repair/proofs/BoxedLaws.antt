@@ -11,49 +11,45 @@ use lib.ListN.{length, drop}
 use Rattle.checks.specs.Checks.{Check, _gives_, firstMet}
 use Rattle.checks.specs.Claims.{NoneMet}
 use Rattle.checks.proofs.Laws.{accepted, none-append, some-append}
+use Rattle.checks.proofs.AnswerLaws.{Gives, serves, refuses}
 use Rattle.lists.specs.Lists.{someOutside, rises, listChecks, someMissing, liveNodes}
 use Rattle.lists.proofs.Laws.{list-accepted}
 use Rattle.boxes.specs.Box.{blockLengthIn, namesIn, bodiesIn, nodeCountIn, boxLength, boxChecks}
 use Rattle.boxes.specs.Bodies.{boxOf, withBodies}
 use Rattle.boxes.proofs.Answers.{box-none}
 use Rattle.repair.specs.declared.Session.{Session}
+use Rattle.repair.specs.declared.Started.{Started}
+use Rattle.repair.specs.declared.Written.{Written}
 use Rattle.repair.specs.Session.{refusedStart, nodeCountOf, nodesChecks}
-use Rattle.repair.specs.Boxed.{sessionIn, boxAnswer, readChecks, readBox, nodesRead, listed, writtenLength, writeChecks, written, outWritten}
+use Rattle.repair.specs.Boxed.{sessionIn, readChecks, readBox, nodesRead, listed, writtenLength, writeChecks, refusedWrite, written, outWritten}
 use Rattle.repair.proofs.StartLaws.{nodes-none}
 
 -- ---- a box
 
-pub answer-refused : (bytes : List ℕ) (number : ℕ) → (number ≡ 0 → ⊥) → refusedStart number ≡ boxAnswer bytes number
-answer-refused bytes number h = simp (ne-eqb number 0 h)
-
 module _ (bytes nodes : List ℕ) where
-  -- what a refusal gives
-  pub record ReadRefused (number : ℕ) : Type 0 where
-    pub answer : refusedStart number ≡ readBox bytes nodes
-    pub kept : nodes ≡ nodesRead bytes nodes
+  -- an answer, and the nodes buffer afterwards
+  abbrev pub Reads : Started → List ℕ → Type 0
+  Reads = Gives (readBox bytes nodes) (nodesRead bytes nodes)
 
-  refused : (number : ℕ) → firstMet (readChecks bytes nodes) ≡ number → (number ≡ 0 → ⊥) → ReadRefused number
+  refused : (number : ℕ) → number ≡ firstMet (readChecks bytes nodes) → (number ≡ 0 → ⊥) → Reads (refusedStart number) nodes
   unfolding readBox nodesRead
-  refused number e h = record { answer = rw e (answer-refused bytes number h); kept = simp (e, ne-eqb number 0 h) }
+  refused number e h = refuses (readChecks bytes nodes) _ refusedStart _ nodes number e h
 
-  pub read-by-box : (number : ℕ) → number ≡ firstMet (boxChecks bytes) → (number ≡ 0 → ⊥) → ReadRefused number
+  pub read-by-box : (number : ℕ) → number ≡ firstMet (boxChecks bytes) → (number ≡ 0 → ⊥) → Reads (refusedStart number) nodes
   unfolding readChecks
-  read-by-box number e h = refused number (some-append (boxChecks bytes) _ (λ z. h (e ∙ z)) ∙ sym e) h
+  read-by-box number e h = refused number (e ∙ sym (some-append (boxChecks bytes) _ (λ z. h (e ∙ z)))) h
 
   module _ (e : firstMet (boxChecks bytes) ≡ 0) where
-    pub read-by-nodes : (length nodes ≡ nodeCountIn bytes * blockLengthIn bytes → ⊥) → ReadRefused 6
+    pub read-by-nodes : (length nodes ≡ nodeCountIn bytes * blockLengthIn bytes → ⊥) → Reads (refusedStart 6) nodes
     unfolding readChecks firstMet
-    read-by-nodes h = refused 6 (none-append (boxChecks bytes) _ (box-none bytes e) ∙ simp (ne-eqb (length nodes) (nodeCountIn bytes * blockLengthIn bytes) h)) (λ z. omega arith)
+    read-by-nodes h = refused 6 (sym (none-append (boxChecks bytes) _ (box-none bytes e) ∙ simp (ne-eqb (length nodes) (nodeCountIn bytes * blockLengthIn bytes) h))) (λ z. omega arith)
 
-    pub record ReadDone : Type 0 where
-      pub answer : record { refusal = 0; session = sessionIn bytes } ≡ readBox bytes nodes
-      pub written : withBodies (blockLengthIn bytes) nodes (namesIn bytes) (bodiesIn bytes) ≡ nodesRead bytes nodes
-
-    pub read-done : length nodes ≡ nodeCountIn bytes * blockLengthIn bytes → ReadDone
+    pub read-done : length nodes ≡ nodeCountIn bytes * blockLengthIn bytes
+        → Reads (record { refusal = 0; session = sessionIn bytes }) (withBodies (blockLengthIn bytes) nodes (namesIn bytes) (bodiesIn bytes))
     unfolding readBox nodesRead readChecks firstMet
     read-done h =
-        let f : firstMet (readChecks bytes nodes) ≡ 0 = none-append (boxChecks bytes) _ (box-none bytes e) ∙ simp (eq-eqb (length nodes) (nodeCountIn bytes * blockLengthIn bytes) h) in
-        record { answer = simp f; written = simp f }
+        serves (readChecks bytes nodes) _ refusedStart _ nodes
+        (none-append (boxChecks bytes) _ (box-none bytes e) ∙ simp (eq-eqb (length nodes) (nodeCountIn bytes * blockLengthIn bytes) h))
 
 -- ---- write
 
@@ -72,16 +68,14 @@ module _ (s : Session) (nodes list out : List ℕ) where
   unfolding writeChecks
   split = sym (append-assoc (nodesChecks s (length nodes)) lists room)
 
-  pub record WriteRefused (number : ℕ) : Type 0 where
-    pub answer : record { refusal = number; length = 0; session = s } ≡ written s nodes list out
-    pub kept : out ≡ outWritten s nodes list out
+  -- an answer, and the destination afterwards
+  abbrev pub Writes : Written → List ℕ → Type 0
+  Writes = Gives (written s nodes list out) (outWritten s nodes list out)
 
-  refused-write : (number : ℕ) → firstMet (writeChecks s nodes list out) ≡ number → (number ≡ 0 → ⊥) → WriteRefused number
+  pub write-by-list : (number : ℕ) → number ≡ firstMet earlier → (number ≡ 0 → ⊥) → Writes (refusedWrite s number) out
   unfolding written outWritten
-  refused-write number e h = record { answer = simp (e, ne-eqb number 0 h); kept = simp (e, ne-eqb number 0 h) }
-
-  pub write-by-list : (number : ℕ) → number ≡ firstMet earlier → (number ≡ 0 → ⊥) → WriteRefused number
-  write-by-list number e h = refused-write number (ap firstMet split ∙ some-append earlier room (λ z. h (e ∙ z)) ∙ sym e) h
+  write-by-list number e h =
+      refuses (writeChecks s nodes list out) _ (refusedWrite s) _ out number (sym (ap firstMet split ∙ some-append earlier room (λ z. h (e ∙ z)) ∙ sym e)) h
 
   pub list-none : firstMet earlier ≡ 0 → NoneMet earlier
   unfolding nodesChecks
@@ -105,17 +99,19 @@ module _ (s : Session) (nodes list out : List ℕ) where
     to-room = ap firstMet split ∙ none-append earlier room (list-none e)
 
     -- with room or without, for the nodes that the list stands for
-    pub record WriteDone (names : List ℕ) : Type 0 where
-      pub answer : cond (ltb (length out) (boxLength (length names) (s .len))) (record { refusal = 6; length = 0; session = s }) (record { refusal = 0; length = boxLength (length names) (s .len); session = s }) ≡ written s nodes list out
-      pub bytes : cond (ltb (length out) (boxLength (length names) (s .len))) out (boxOf (s .family) (s .k) (s .len) names nodes ++ drop (boxLength (length names) (s .len)) out) ≡ outWritten s nodes list out
+    abbrev pub WriteDone : List ℕ → Type 0
+    WriteDone names =
+        Writes
+        (cond (ltb (length out) (boxLength (length names) (s .len))) (refusedWrite s 6) (record { refusal = 0; length = boxLength (length names) (s .len); session = s }))
+        (cond (ltb (length out) (boxLength (length names) (s .len))) out (boxOf (s .family) (s .k) (s .len) names nodes ++ drop (boxLength (length names) (s .len)) out))
 
     all-listed : WriteDone (listed s list)
     unfolding written outWritten firstMet
     all-listed = go (ltb (length out) (writtenLength s list)) refl
       where
         go : (b : Bool) → ltb (length out) (writtenLength s list) ≡ b → WriteDone (listed s list)
-        go true t = let f : firstMet (writeChecks s nodes list out) ≡ 6 = to-room ∙ rw t in record { answer = simp (t, f); bytes = simp (t, f) }
-        go false t = let f : firstMet (writeChecks s nodes list out) ≡ 0 = to-room ∙ rw t in record { answer = simp (t, f); bytes = simp (t, f) }
+        go true t = let f : firstMet (writeChecks s nodes list out) ≡ 6 = to-room ∙ rw t in record { answer-is = simp (t, f); buffer-is = simp (t, f) }
+        go false t = let f : firstMet (writeChecks s nodes list out) ≡ 0 = to-room ∙ rw t in record { answer-is = simp (t, f); buffer-is = simp (t, f) }
 
     pub write-done : (names : List ℕ) → listed s list ≡ names → WriteDone names
     write-done names e = subst WriteDone e all-listed

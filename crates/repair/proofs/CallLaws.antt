@@ -18,7 +18,7 @@ use Rattle.planning.specs.Plan.{Step, repairedNodes, marksAfter, nodesLeft}
 use Rattle.repair.specs.declared.Session.{Session}
 use Rattle.repair.specs.declared.Stepped.{Stepped}
 use Rattle.repair.specs.declared.Repairs.{Repairs}
-use Rattle.repair.specs.Session.{sessionOf, startChecks, started, nodeCountOf}
+use Rattle.repair.specs.Session.{sessionWith, sessionOf, startChecks, started, nodeCountOf}
 use Rattle.repair.specs.Step.{stepChecks, withLive, stepped}
 use Rattle.repair.specs.Repairs.{planIn, repairsOf, refusedRepairs, planChecks, planned, runChecks, ran}
 use Rattle.repair.specs.Calls.{Move, step, run, Call, sessionAfter, sessionAfterAll, addedBy, liveAfter}
@@ -69,7 +69,7 @@ module _ (family k L : ℕ) where
   from now = sessionOf family k L now
 
   added-session : (now added : List ℕ) → withLive (from now) added ≡ from (now ++ added)
-  added-session now added = ap (λ (live : List Bool). record { family = family; k = k; len = L; live = live }) (sym (live-append noneLive now added))
+  added-session now added = ap (sessionWith family k L) (sym (live-append noneLive now added))
 
   -- from an accepted call, and from one that is turned away
   either-session : {R : Type 0} (get : R → Session) (done kept : R) (now added : List ℕ) → get done ≡ withLive (from now) added → get kept ≡ from now

@@ -341,6 +341,6 @@ module _ (object : List ℕ) where
       let d = data-node f (s .k) i range l h in
       o .live (dataNode f (s .k) i) (d .is-node) (not-false _ (first-zero _ 1 (s .k) (omega arith) whole i l (omega arith)))
       ∙ sym (buffer-block f (s .k) (s .len) object (o .size) (dataNode f (s .k) i) (d .is-node)) in
-      sym (read s nodes result e .written)
+      sym (read s nodes result e .buffer-is)
       ∙ same-blocks f (s .k) (s .len) nodes (nodesBuffer f (s .k) (s .len) object) (s .k) at
       ∙ blocks-of-encoded f (s .k) (s .len) object range (o .size)

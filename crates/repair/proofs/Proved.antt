@@ -20,7 +20,7 @@ use Rattle.boxes.proofs.Laws.{accepted-box}
 use Rattle.boxes.proofs.Proved.{body-claim, box-of-body-claim}
 use Rattle.repair.specs.declared.Session.{Session}
 use Rattle.repair.specs.declared.Started.{Started}
-use Rattle.repair.specs.Session.{started, nodeCountOf, noStart}
+use Rattle.repair.specs.Session.{sessionWith, started, nodeCountOf, noStart}
 use Rattle.repair.specs.Boxed.{checkedBox, listed}
 use Rattle.repair.specs.Claims.{StartClaim, FromStart, NoStartClaim, StartMarksClaim, WriteReadClaim, ReadKeepsClaim, ReadWriteClaim, ReadBodyClaim, WrittenBodyClaim, BoxStartClaim, WrongCountClaim}
 use Rattle.repair.proofs.Accepted.{start-accepted, check-accepted, read-accepted, write-accepted}
@@ -52,7 +52,7 @@ no-start-claim s size = (from, back)
           list = liveNodes (s .live) (nodeCountOf s);
           gives =
               rw (start-0 (s .family) (s .k) (s .len) (liveNodes (s .live) (nodeCountOf s)) (parameters-in (s .family) (s .k) (s .len) (g .range)) (l .outside) (l .rising))
-              (ap (λ (live : List Bool). record { refusal = 0; session = record { family = s .family; k = s .k; len = s .len; live = live } }) marks);
+              (ap (λ (live : List Bool). record { refusal = 0; session = sessionWith (s .family) (s .k) (s .len) live }) marks);
         }
 
     back : FromStart s → noStart s ≡ false
@@ -142,6 +142,6 @@ wrong-count-claim bytes long e z other =
     let some : firstMet (boxChecks bytes) ≡ 0 → ⊥ = λ none. omega (arith, b) in
     record {
       check = rw b;
-      read = λ nodes. let r = read-by-box bytes nodes 7 (sym b) (λ z. omega arith) in (sym (r .answer), sym (r .kept));
+      read = λ nodes. let r = read-by-box bytes nodes 7 (sym b) (λ z. omega arith) in (sym (r .answer-is), sym (r .buffer-is));
       body = λ j. let y = by-box bytes j some ∙ b in (y, body-empty bytes j (λ none. omega (arith, y)));
     }

@@ -1,17 +1,18 @@
 -- What the checks of a plan and of a run say, and what they give.
 -- Assumes nothing.
-use mathlib.Core.Path.{_≡_, sym, ap, _∙_, subst}
+use mathlib.Core.Path.{_≡_, sym, ap, subst}
 use mathlib.Core.Bool.{Bool, true, false}
 use mathlib.Core.List.{List, _++_}
 use Prim.Native.Nat.{ℕ, _+_, _*_, _≤_, _<_}
 use native.Mathlib.Omega.{arith}
-use borrow.Author.Tests.{ne-eqb, lt-ltb, le-ltb}
+use borrow.Author.Tests.{lt-ltb, le-ltb}
 use lib.ListN.{length, take, drop}
 use lib.Seq.{take-at}
 use Rattle.families.specs.declared.Family.{Family}
 use Rattle.families.specs.Families.{familyOf, KInRange, nodeCount}
 use Rattle.families.proofs.Laws.{few}
 use Rattle.checks.specs.Checks.{firstMet}
+use Rattle.checks.proofs.AnswerLaws.{Gives, serves, refuses}
 use Rattle.planning.specs.Plan.{planOf, repairedNodes, stepBytes}
 use Rattle.planning.specs.Inner.{plannedOf, AllIn}
 use Rattle.planning.specs.Made.{nodesMade, stepsIn}
@@ -22,7 +23,7 @@ use Rattle.planning.proofs.MakeLaws.{left-few}
 use Rattle.planning.proofs.Proved.{plan-claim}
 use Rattle.repair.specs.declared.Session.{Session}
 use Rattle.repair.specs.declared.Repairs.{Repairs}
-use Rattle.repair.specs.Session.{nodeCountOf, noStart}
+use Rattle.repair.specs.Session.{sessionWith, nodeCountOf, noStart}
 use Rattle.repair.specs.Step.{withLive}
 use Rattle.repair.specs.Repairs.{planIn, repairsOf, refusedRepairs, planChecks, planned, outPlanned, runChecks, ran, nodesRan}
 
@@ -35,15 +36,12 @@ module _ (s : Session) where
 
   module _ (out : List ℕ) where
     -- an answer and the destination afterwards
-    pub record Plans (answer : Repairs) (after : List ℕ) : Type 0 where
-      pub answer-is : answer ≡ planned s out
-      pub out-is : after ≡ outPlanned s out
+    abbrev pub Plans : Repairs → List ℕ → Type 0
+    Plans = Gives (planned s out) (outPlanned s out)
 
     plan-refused : (number : ℕ) → number ≡ firstMet (planChecks s out) → (number ≡ 0 → ⊥) → Plans (refusedRepairs s number) out
     unfolding planned outPlanned
-    plan-refused number e h =
-        let n = ne-eqb (firstMet (planChecks s out)) 0 (λ z. h (e ∙ z)) in
-        record { answer-is = rw (n, e); out-is = rw n }
+    plan-refused = refuses (planChecks s out) _ (refusedRepairs s) _ out
 
     pub plan-13 : noStart s ≡ true → Plans (refusedRepairs s 13) out
     unfolding planChecks firstMet
@@ -56,25 +54,22 @@ module _ (s : Session) where
 
       pub plan-made : 4 * length (planIn s) ≤ length out → Plans (repairsOf s s) (stepBytes (planIn s) ++ drop (4 * length (planIn s)) out)
       unfolding planChecks firstMet planned outPlanned
-      plan-made h = let l = le-ltb (length out) (4 * length (planIn s)) h in record { answer-is = rw (e, l); out-is = rw (e, l) }
+      plan-made h = serves (planChecks s out) _ (refusedRepairs s) _ out (rw (e, le-ltb (length out) (4 * length (planIn s)) h))
 
   -- ---- run
 
   module _ (nodes : List ℕ) where
     -- an answer and the nodes buffer afterwards
-    pub record Runs (answer : Repairs) (after : List ℕ) : Type 0 where
-      pub answer-is : answer ≡ ran s nodes
-      pub nodes-are : after ≡ nodesRan s nodes
+    abbrev pub Runs : Repairs → List ℕ → Type 0
+    Runs = Gives (ran s nodes) (nodesRan s nodes)
 
     pub run-refused : (number : ℕ) → number ≡ firstMet (runChecks s nodes) → (number ≡ 0 → ⊥) → Runs (refusedRepairs s number) nodes
     unfolding ran nodesRan
-    run-refused number e h =
-        let n = ne-eqb (firstMet (runChecks s nodes)) 0 (λ z. h (e ∙ z)) in
-        record { answer-is = rw (n, e); nodes-are = rw n }
+    run-refused = refuses (runChecks s nodes) _ (refusedRepairs s) _ nodes
 
     pub run-made : firstMet (runChecks s nodes) ≡ 0 → Runs (repairsOf s (withLive s (repairedNodes (planIn s)))) (nodesMade (s .len) nodes (planIn s))
     unfolding ran nodesRan
-    run-made e = record { answer-is = rw e; nodes-are = rw e }
+    run-made = serves (runChecks s nodes) _ (refusedRepairs s) _ nodes
 
 -- ---- the plan that was made aside: its counts, and its steps in a list of bytes
 
@@ -86,7 +81,7 @@ module _ (s : Session) (made : Planned) (is : made ≡ plannedOf (familyOf (s .f
   made-answer next = rw is
 
   -- with the session that a run hands back
-  pub made-ran : record { refusal = 0; steps = made .steps; rounds = made .rounds; left = made .left; session = record { family = s .family; k = s .k; len = s .len; live = made .live } }
+  pub made-ran : record { refusal = 0; steps = made .steps; rounds = made .rounds; left = made .left; session = sessionWith (s .family) (s .k) (s .len) (made .live) }
       ≡ repairsOf s (withLive s (repairedNodes (planIn s)))
   made-ran = rw is
 

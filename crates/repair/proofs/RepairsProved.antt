@@ -13,12 +13,11 @@ use Rattle.planning.proofs.CarryLaws.{steps-back}
 use Rattle.planning.proofs.Proved.{plan-claim}
 use Rattle.repair.specs.declared.Session.{Session}
 use Rattle.repair.specs.Session.{nodeCountOf}
-use Rattle.repair.specs.ReadOut.{readOut}
 use Rattle.repair.specs.Step.{stepped}
 use Rattle.repair.specs.Repairs.{planIn, planned, outPlanned, runChecks, ran}
 use Rattle.repair.specs.Calls.{step, run, stateAfter}
 use Rattle.repair.specs.RepairClaims.{StepClaim, StaysClaim, LiveStaysClaim, PlanWritesClaim, RunIsStepsClaim, RunEndsClaim, PlacesKeptClaim, LiveKeptClaim, RunAgainClaim, OwnClaim}
-use Rattle.repair.proofs.Accepted.{step-passed, plan-accepted, run-accepted}
+use Rattle.repair.proofs.Accepted.{read-out-accepted, step-passed, plan-accepted, run-accepted}
 use Rattle.repair.proofs.StartLaws.{nodes-0}
 use Rattle.repair.proofs.StepLaws.{accepted-step, step-accepted}
 use Rattle.repair.proofs.CallLaws.{ran-left}
@@ -74,8 +73,7 @@ run-again s size nodes a other h =
     record { answer = quiet-answer next other again marks done ∙ rw left; nodes-are = quiet-nodes next other again marks done }
 
 pub own-claim : OwnClaim
-unfolding readOut
 own-claim object s nodes marks size live moves =
     let held = stateAfter s nodes moves in
     let o : OwnHeld object held = own-moves object s nodes moves (record { marks = marks; size = size; live = live }) in
-    record { live = o .live; out = λ result e. own-out object (held .session) (held .nodes) result o e }
+    record { live = o .live; out = λ result e. own-out object (held .session) (held .nodes) result o (read-out-accepted (held .session) (held .nodes) result e) }

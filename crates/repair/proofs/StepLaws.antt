@@ -1,17 +1,18 @@
 -- What the checks of a step say, and what a step gives.
 -- Assumes nothing.
-use mathlib.Core.Path.{_≡_, refl, ap, _∙_}
+use mathlib.Core.Path.{_≡_, refl, ap}
 use mathlib.Core.Bool.{false, not}
 use mathlib.Core.List.{List, [], _∷_}
 use Prim.Native.Nat.{ℕ, _*_}
 use native.Mathlib.Omega.{arith}
-use borrow.Author.Tests.{eqb-true, eq-eqb, ne-eqb, not-false}
+use borrow.Author.Tests.{eqb-true, eq-eqb, not-false}
 use lib.ListN.{length}
 use Rattle.base.proofs.Tests.{or-neither}
 use Rattle.families.specs.Families.{familyOf, KInRange, IsNode, areRelated}
 use Rattle.checks.specs.Checks.{Check, _gives_, firstMet}
 use Rattle.checks.specs.Parameters.{outside}
 use Rattle.checks.proofs.Laws.{inside, outside-no, accepted, none-append, some-append, none-zero}
+use Rattle.checks.proofs.AnswerLaws.{Gives, serves, refuses}
 use Rattle.lists.specs.Lists.{someOutside, isLive, someMissing}
 use Rattle.lists.proofs.Laws.{outside-none}
 use Rattle.planning.specs.Plan.{Step}
@@ -22,7 +23,7 @@ use Rattle.planning.proofs.CarryLaws.{step-in}
 use Rattle.repair.specs.declared.Session.{Session}
 use Rattle.repair.specs.declared.Stepped.{Stepped}
 use Rattle.repair.specs.Session.{nodeCountOf, nodesChecks}
-use Rattle.repair.specs.Step.{stepChecks, withLive, stepped, nodesStepped}
+use Rattle.repair.specs.Step.{stepChecks, withLive, refusedStep, stepped, nodesStepped}
 use Rattle.repair.proofs.StartLaws.{known, nodes-none, Sized}
 
 -- a number that the test lets through is a node's
@@ -47,19 +48,17 @@ module _ (s : Session) (nodes : List ℕ) (j a b : ℕ) where
 
   -- ---- what a step gives
 
-  pub record Gives (answer : Stepped) (after : List ℕ) : Type 0 where
-    pub answer-is : answer ≡ stepped s nodes j a b
-    pub nodes-are : after ≡ nodesStepped s nodes j a b
+  -- an answer, and the nodes buffer afterwards
+  abbrev pub Steps : Stepped → List ℕ → Type 0
+  Steps = Gives (stepped s nodes j a b) (nodesStepped s nodes j a b)
 
-  pub step-refused : (number : ℕ) → number ≡ firstMet (stepChecks s nodes j a b) → (number ≡ 0 → ⊥) → Gives (record { refusal = number; session = s }) nodes
+  pub step-refused : (number : ℕ) → number ≡ firstMet (stepChecks s nodes j a b) → (number ≡ 0 → ⊥) → Steps (refusedStep s number) nodes
   unfolding stepped nodesStepped
-  step-refused number e h =
-      let n = ne-eqb (firstMet (stepChecks s nodes j a b)) 0 (λ z. h (e ∙ z)) in
-      record { answer-is = rw (n, e); nodes-are = rw n }
+  step-refused = refuses (stepChecks s nodes j a b) _ (refusedStep s) _ nodes
 
-  pub step-made : firstMet (stepChecks s nodes j a b) ≡ 0 → Gives (record { refusal = 0; session = withLive s (j ∷ []) }) (mended (s .len) nodes j a b)
+  pub step-made : firstMet (stepChecks s nodes j a b) ≡ 0 → Steps (record { refusal = 0; session = withLive s (j ∷ []) }) (mended (s .len) nodes j a b)
   unfolding stepped nodesStepped
-  step-made e = record { answer-is = rw e; nodes-are = rw e }
+  step-made = serves (stepChecks s nodes j a b) _ (refusedStep s) _ nodes
 
 -- ---- a step, accepted
 

@@ -30,7 +30,7 @@ use Rattle.readout.proofs.Laws.{data-node}
 use Rattle.repair.specs.declared.Session.{Session}
 use Rattle.repair.specs.declared.Started.{Started}
 use Rattle.repair.specs.declared.ReadOut.{ReadOut}
-use Rattle.repair.specs.Session.{sessionOf, started, nodeCountOf, nodesChecks}
+use Rattle.repair.specs.Session.{sessionWith, sessionOf, started, nodeCountOf, nodesChecks}
 use Rattle.repair.specs.Boxed.{checkedBox, readChecks, readBox, nodesRead, listed, writeChecks, written}
 use Rattle.repair.specs.ReadOut.{missingIn, readOut, objectOut}
 use Rattle.repair.specs.Repairs.{ran, nodesRan}
@@ -76,7 +76,7 @@ write-live-claim s nodes out size h =
     let e = write-accepted s nodes [] out h in
     let g = known s (accepted-write s nodes [] out e .starts) in
     box-checked s nodes [] out e
-    ∙ ap (λ (live : List Bool). record { refusal = 0; session = record { family = s .family; k = s .k; len = s .len; live = live } })
+    ∙ ap (λ (live : List Bool). record { refusal = 0; session = sessionWith (s .family) (s .k) (s .len) live })
     (marks-of-live-nodes (nodeCountOf s) (s .live) size (few (familyOf (s .family)) (s .k) (g .range .blocks)) (g .inside))
 
 -- ---- the object's own blocks
@@ -196,10 +196,10 @@ module _ (s : Session) (nodes result : List ℕ) (fits : Fits s nodes) (size : l
 
   -- what read out gives, by the lowest missing block
   none-missing : missingIn s ≡ 0 → readOut s nodes result ≡ record { refusal = 0; block = 0; session = s }
-  none-missing z = sym (read s nodes result (accepted-out s nodes result accepts size z) .answer)
+  none-missing z = sym (read s nodes result (accepted-out s nodes result accepts size z) .answer-is)
 
   some-missing : (i : ℕ) → missingIn s ≡ i → 1 ≤ i → readOut s nodes result ≡ record { refusal = 14; block = i; session = s }
-  some-missing i z l = sym (by-block s nodes result accepts size i (sym z) (λ n. omega arith) .answer)
+  some-missing i z l = sym (by-block s nodes result accepts size i (sym z) (λ n. omega arith) .answer-is)
 
   -- the block that a read out tells
   told : (refusal block : ℕ) → readOut s nodes result ≡ record { refusal = refusal; block = block; session = s } → missingIn s ≡ block

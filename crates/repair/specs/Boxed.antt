@@ -1,10 +1,10 @@
 -- Boxes and sessions: check, read and write (document 01, "The box" and "Write").
 use Prim.Native.Nat.{ℕ, _*_}
-use mathlib.Core.Bool.{cond, not}
+use mathlib.Core.Bool.{not}
 use mathlib.Core.List.{List, [], _∷_, _++_}
 use lib.ListN.{length, drop}
 use lib.Dec.{eqb, ltb}
-use Rattle.checks.specs.Checks.{Check, _gives_, firstMet}
+use Rattle.checks.specs.Checks.{Check, _gives_, answer, afterwards}
 use Rattle.lists.specs.Lists.{listChecks, someMissing, liveNodes}
 use Rattle.boxes.specs.Box.{familyIn, kIn, blockLengthIn, namesIn, bodiesIn, nodeCountIn, boxLength, boxChecks}
 use Rattle.boxes.specs.Bodies.{boxOf, withBodies}
@@ -18,12 +18,12 @@ abbrev pub sessionIn : List ℕ → Session
 sessionIn bytes = sessionOf (familyIn bytes) (kIn bytes) (blockLengthIn bytes) (namesIn bytes)
 
 -- a box that passes a list of checks gives its session
-abbrev pub boxAnswer : List ℕ → ℕ → Started
-boxAnswer bytes number = cond (eqb number 0) (record { refusal = 0; session = sessionIn bytes }) (refusedStart number)
+abbrev pub boxAnswer : List ℕ → List Check → Started
+boxAnswer bytes checks = answer checks (record { refusal = 0; session = sessionIn bytes }) refusedStart
 
 -- a box checked alone
 unfoldable pub checkedBox : List ℕ → Started
-checkedBox bytes = boxAnswer bytes (firstMet (boxChecks bytes))
+checkedBox bytes = boxAnswer bytes (boxChecks bytes)
 
 -- reading: the box's checks, then 6
 unfoldable pub readChecks : List ℕ → List ℕ → List Check
@@ -31,11 +31,11 @@ readChecks bytes nodes = boxChecks bytes ++ ((not (eqb (length nodes) (nodeCount
 
 -- what reading gives
 unfoldable pub readBox : List ℕ → List ℕ → Started
-readBox bytes nodes = boxAnswer bytes (firstMet (readChecks bytes nodes))
+readBox bytes nodes = boxAnswer bytes (readChecks bytes nodes)
 
 -- the nodes buffer after reading: the bodies of the named nodes; places of missing nodes keep their bytes
 unfoldable pub nodesRead : List ℕ → List ℕ → List ℕ
-nodesRead bytes nodes = cond (eqb (firstMet (readChecks bytes nodes)) 0) (withBodies (blockLengthIn bytes) nodes (namesIn bytes) (bodiesIn bytes)) nodes
+nodesRead bytes nodes = afterwards (readChecks bytes nodes) (withBodies (blockLengthIn bytes) nodes (namesIn bytes) (bodiesIn bytes)) nodes
 
 -- an empty list stands for every live node
 abbrev pub listed : Session → List ℕ → List ℕ
@@ -55,16 +55,16 @@ writeChecks s nodes list out =
     ∷ (ltb (length out) (writtenLength s list) gives 6)
     ∷ []))
 
--- what writing gives: the length, or the refusal's number; the session stays
+-- a refused write: its number, length 0, the session as handed in
+abbrev pub refusedWrite : Session → ℕ → Written
+refusedWrite s number = record { refusal = number; length = 0; session = s }
+
+-- what writing gives: the length; the session stays
 unfoldable pub written : Session → List ℕ → List ℕ → List ℕ → Written
 written s nodes list out =
-    cond (eqb (firstMet (writeChecks s nodes list out)) 0)
-    (record { refusal = 0; length = writtenLength s list; session = s })
-    (record { refusal = firstMet (writeChecks s nodes list out); length = 0; session = s })
+    answer (writeChecks s nodes list out) (record { refusal = 0; length = writtenLength s list; session = s }) (refusedWrite s)
 
 -- the destination afterwards: the box, and beyond it what was there
 unfoldable pub outWritten : Session → List ℕ → List ℕ → List ℕ → List ℕ
 outWritten s nodes list out =
-    cond (eqb (firstMet (writeChecks s nodes list out)) 0)
-    (boxOf (s .family) (s .k) (s .len) (listed s list) nodes ++ drop (writtenLength s list) out)
-    out
+    afterwards (writeChecks s nodes list out) (boxOf (s .family) (s .k) (s .len) (listed s list) nodes ++ drop (writtenLength s list) out) out

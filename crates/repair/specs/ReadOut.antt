@@ -5,7 +5,7 @@ use mathlib.Core.List.{List, [], _∷_, _++_}
 use lib.ListN.{length}
 use lib.Dec.{eqb}
 use Rattle.families.specs.Families.{familyOf}
-use Rattle.checks.specs.Checks.{Check, _gives_, firstMet}
+use Rattle.checks.specs.Checks.{Check, _gives_, answer, afterwards}
 use Rattle.readout.specs.DataBlocks.{missingBlock, dataBlocks}
 use Rattle.repair.specs.declared.Session.{Session}
 use Rattle.repair.specs.declared.ReadOut.{ReadOut}
@@ -23,16 +23,14 @@ readOutChecks s nodes object =
     ∷ (not (eqb (missingIn s) 0) gives 14)
     ∷ [])
 
--- what read out gives: 14 comes with the lowest missing block; the session stays
+-- refused: 14 comes with the lowest missing block, any other number with 0
+abbrev pub refusedOut : Session → ℕ → ReadOut
+refusedOut s number = record { refusal = number; block = cond (eqb number 14) (missingIn s) 0; session = s }
+
+-- what read out gives; the session stays
 unfoldable pub readOut : Session → List ℕ → List ℕ → ReadOut
-readOut s nodes object =
-    record {
-      refusal = firstMet (readOutChecks s nodes object);
-      block = cond (eqb (firstMet (readOutChecks s nodes object)) 14) (missingIn s) 0;
-      session = s;
-    }
+readOut s nodes object = answer (readOutChecks s nodes object) (record { refusal = 0; block = 0; session = s }) (refusedOut s)
 
 -- the object afterwards
 unfoldable pub objectOut : Session → List ℕ → List ℕ → List ℕ
-objectOut s nodes object =
-    cond (eqb (firstMet (readOutChecks s nodes object)) 0) (dataBlocks (familyOf (s .family)) (s .k) (s .len) nodes (s .k)) object
+objectOut s nodes object = afterwards (readOutChecks s nodes object) (dataBlocks (familyOf (s .family)) (s .k) (s .len) nodes (s .k)) object

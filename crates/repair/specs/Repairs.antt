@@ -1,11 +1,10 @@
 -- Plan and run (document 01, "The session"): the plan of a session, listed, and carried out on a nodes buffer.
 use Prim.Native.Nat.{ℕ, _*_}
-use mathlib.Core.Bool.{cond}
 use mathlib.Core.List.{List, [], _∷_, _++_}
 use lib.ListN.{length, drop}
-use lib.Dec.{eqb, ltb}
+use lib.Dec.{ltb}
 use Rattle.families.specs.Families.{familyOf}
-use Rattle.checks.specs.Checks.{Check, _gives_, firstMet}
+use Rattle.checks.specs.Checks.{Check, _gives_, answer, afterwards}
 use Rattle.planning.specs.Plan.{Step, planOf, repairedNodes, marksAfter, stepBytes, lastRound, nodesLeft}
 use Rattle.planning.specs.Made.{nodesMade}
 use Rattle.repair.specs.declared.Session.{Session}
@@ -17,16 +16,14 @@ use Rattle.repair.specs.Step.{withLive}
 abbrev pub planIn : Session → List Step
 planIn s = planOf (familyOf (s .family)) (s .k) (s .live)
 
+-- its nodes left: those missing once its steps are made
+abbrev pub leftIn : Session → ℕ
+leftIn s = nodesLeft (marksAfter (s .live) (planIn s)) (nodeCountOf s)
+
 -- steps, rounds and nodes left of a session's plan, with the session that is handed back
 abbrev pub repairsOf : Session → Session → Repairs
 repairsOf s next =
-    record {
-      refusal = 0;
-      steps = length (planIn s);
-      rounds = lastRound (planIn s);
-      left = nodesLeft (marksAfter (s .live) (planIn s)) (nodeCountOf s);
-      session = next;
-    }
+    record { refusal = 0; steps = length (planIn s); rounds = lastRound (planIn s); left = leftIn s; session = next }
 
 -- a refusal: its number and zeros, the session as handed in
 abbrev pub refusedRepairs : Session → ℕ → Repairs
@@ -38,13 +35,11 @@ planChecks s out = (noStart s gives 13) ∷ (ltb (length out) (4 * length (planI
 
 -- what a plan gives: the session stays
 unfoldable pub planned : Session → List ℕ → Repairs
-planned s out =
-    cond (eqb (firstMet (planChecks s out)) 0) (repairsOf s s) (refusedRepairs s (firstMet (planChecks s out)))
+planned s out = answer (planChecks s out) (repairsOf s s) (refusedRepairs s)
 
 -- the destination afterwards: four bytes a step; beyond them it is not written
 unfoldable pub outPlanned : Session → List ℕ → List ℕ
-outPlanned s out =
-    cond (eqb (firstMet (planChecks s out)) 0) (stepBytes (planIn s) ++ drop (4 * length (planIn s)) out) out
+outPlanned s out = afterwards (planChecks s out) (stepBytes (planIn s) ++ drop (4 * length (planIn s)) out) out
 
 -- Run: 13, 6
 unfoldable pub runChecks : Session → List ℕ → List Check
@@ -52,9 +47,8 @@ runChecks s nodes = nodesChecks s (length nodes)
 
 -- what a run gives: the next session has the repaired nodes live
 unfoldable pub ran : Session → List ℕ → Repairs
-ran s nodes =
-    cond (eqb (firstMet (runChecks s nodes)) 0) (repairsOf s (withLive s (repairedNodes (planIn s)))) (refusedRepairs s (firstMet (runChecks s nodes)))
+ran s nodes = answer (runChecks s nodes) (repairsOf s (withLive s (repairedNodes (planIn s)))) (refusedRepairs s)
 
 -- the nodes buffer afterwards: the plan's steps made; places of nodes left keep their bytes
 unfoldable pub nodesRan : Session → List ℕ → List ℕ
-nodesRan s nodes = cond (eqb (firstMet (runChecks s nodes)) 0) (nodesMade (s .len) nodes (planIn s)) nodes
+nodesRan s nodes = afterwards (runChecks s nodes) (nodesMade (s .len) nodes (planIn s)) nodes

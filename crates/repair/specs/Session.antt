@@ -1,22 +1,26 @@
 -- The session and its start (document 01, "The session").
 use Prim.Native.Nat.{ℕ, _*_}
-use mathlib.Core.Bool.{Bool, cond, not, _||_}
+use mathlib.Core.Bool.{Bool, not, _||_}
 use mathlib.Core.List.{List, [], _∷_, _++_}
 use lib.Dec.{eqb}
 use Rattle.families.specs.Families.{familyOf, nodeCount}
-use Rattle.checks.specs.Checks.{Check, _gives_, firstMet}
+use Rattle.checks.specs.Checks.{Check, _gives_, firstMet, answer}
 use Rattle.checks.specs.Parameters.{parameterChecks}
 use Rattle.lists.specs.Lists.{listChecks, noneLive, setLive, liveOutside}
 use Rattle.repair.specs.declared.Session.{Session}
 use Rattle.repair.specs.declared.Started.{Started}
 
--- a family, k and L, and the nodes of a list live
+-- a session: a family, k and L, and a mark for each number
+abbrev pub sessionWith : ℕ → ℕ → ℕ → List Bool → Session
+sessionWith family k L marks = record { family = family; k = k; len = L; live = marks }
+
+-- the nodes of a list live
 abbrev pub sessionOf : ℕ → ℕ → ℕ → List ℕ → Session
-sessionOf family k L list = record { family = family; k = k; len = L; live = setLive noneLive list }
+sessionOf family k L list = sessionWith family k L (setLive noneLive list)
 
 -- a refused start or box gives a session of zeros with every mark missing
 abbrev pub refusedStart : ℕ → Started
-refusedStart number = record { refusal = number; session = record { family = 0; k = 0; len = 0; live = noneLive } }
+refusedStart number = record { refusal = number; session = sessionWith 0 0 0 noneLive }
 
 -- Start: 1, 2, 3, 4 over the whole list, 5
 unfoldable pub startChecks : ℕ → ℕ → ℕ → List ℕ → List Check
@@ -24,10 +28,7 @@ startChecks family k L list = parameterChecks family k L ++ listChecks (nodeCoun
 
 -- what a start gives
 unfoldable pub started : ℕ → ℕ → ℕ → List ℕ → Started
-started family k L list =
-    cond (eqb (firstMet (startChecks family k L list)) 0)
-    (record { refusal = 0; session = sessionOf family k L list })
-    (refusedStart (firstMet (startChecks family k L list)))
+started family k L list = answer (startChecks family k L list) (record { refusal = 0; session = sessionOf family k L list }) refusedStart
 
 -- n of a session's family and k
 abbrev pub nodeCountOf : Session → ℕ

@@ -1,16 +1,15 @@
 -- Step (document 01, "The session"): the caller names a missing node and two live nodes related to it.
 use Prim.Native.Nat.{ℕ}
-use mathlib.Core.Bool.{cond, not}
+use mathlib.Core.Bool.{not}
 use mathlib.Core.List.{List, [], _∷_, _++_}
 use lib.ListN.{length}
-use lib.Dec.{eqb}
 use Rattle.families.specs.Families.{familyOf, areRelated}
-use Rattle.checks.specs.Checks.{Check, _gives_, firstMet}
+use Rattle.checks.specs.Checks.{Check, _gives_, answer, afterwards}
 use Rattle.lists.specs.Lists.{someOutside, isLive, setLive, someMissing}
 use Rattle.planning.specs.Made.{mended}
 use Rattle.repair.specs.declared.Session.{Session}
 use Rattle.repair.specs.declared.Stepped.{Stepped}
-use Rattle.repair.specs.Session.{nodeCountOf, nodesChecks}
+use Rattle.repair.specs.Session.{sessionWith, nodeCountOf, nodesChecks}
 
 -- Step: 13, 6, 4 for any of the three, 10, 11, 12
 unfoldable pub stepChecks : Session → List ℕ → ℕ → ℕ → ℕ → List Check
@@ -24,15 +23,16 @@ stepChecks s nodes j a b =
 
 -- the session with the nodes of a list live too
 abbrev pub withLive : Session → List ℕ → Session
-withLive s list = record { family = s .family; k = s .k; len = s .len; live = setLive (s .live) list }
+withLive s list = sessionWith (s .family) (s .k) (s .len) (setLive (s .live) list)
+
+-- a refused step: its number, the session as handed in
+abbrev pub refusedStep : Session → ℕ → Stepped
+refusedStep s number = record { refusal = number; session = s }
 
 -- what a step gives: the node becomes live
 unfoldable pub stepped : Session → List ℕ → ℕ → ℕ → ℕ → Stepped
-stepped s nodes j a b =
-    cond (eqb (firstMet (stepChecks s nodes j a b)) 0)
-    (record { refusal = 0; session = withLive s (j ∷ []) })
-    (record { refusal = firstMet (stepChecks s nodes j a b); session = s })
+stepped s nodes j a b = answer (stepChecks s nodes j a b) (record { refusal = 0; session = withLive s (j ∷ []) }) (refusedStep s)
 
 -- the nodes buffer afterwards: the node's block is the XOR of the two
 unfoldable pub nodesStepped : Session → List ℕ → ℕ → ℕ → ℕ → List ℕ
-nodesStepped s nodes j a b = cond (eqb (firstMet (stepChecks s nodes j a b)) 0) (mended (s .len) nodes j a b) nodes
+nodesStepped s nodes j a b = afterwards (stepChecks s nodes j a b) (mended (s .len) nodes j a b) nodes

@@ -1,8 +1,10 @@
 -- `repair::Session::check` meets its contract.
 -- Assumes nothing.
-use mathlib.Core.Path.{sym, _∙_}
+use mathlib.Core.Path.{sym, ap, _∙_}
 use Rattle.repair.specs.Boxed.{checkedBox}
-use Rattle.repair.proofs.BoxedLaws.{answer-refused}
+use Rattle.checks.proofs.AnswerLaws.{answer-refused}
+use Rattle.boxes.specs.Box.{boxChecks}
+use Rattle.repair.specs.Session.{refusedStart}
 use borrow.Author.Needs.{needs}
 use Rattle.repair.proofs.Session.check.Statement.{statement}
 use Rattle.repair.proofs.Session.check.Tie as tie
@@ -11,7 +13,7 @@ returns : tie.Need-returns
 unfolding checkedBox
 returns c =
     let e = c .before .before .box-refusal .ensures in
-    rw (← e) (c .refused .ensures ∙ answer-refused (c .before .before .before .before .args .bytes .now) _ (c .before .if1 .taken))
+    c .refused .ensures ∙ ap refusedStart e ∙ sym (answer-refused (boxChecks (c .before .before .before .before .args .bytes .now)) _ refusedStart (λ z. c .before .if1 .taken (e ∙ z)))
 
 returns-2 : tie.Need-returns-2
 unfolding checkedBox

@@ -28,7 +28,7 @@ returns : tie.Need-returns
 returns c =
     let g = c .before .before .before .before .before .args in
     let r = read-by-box (g .bytes .now) (g .nodes .now) _ (c .before .before .box-refusal .ensures) (c .before .if1 .taken) in
-    (c .refused .ensures ∙ r .answer, r .kept)
+    (c .refused .ensures ∙ r .answer-is, r .buffer-is)
 
 mul-if2 : tie.Need-mul-if2
 mul-if2 c =
@@ -40,7 +40,7 @@ returns-2 : tie.Need-returns-2
 returns-2 c =
     let g = c .before .before .before .before .before .before .before .before .args in
     let r = read-by-nodes (g .bytes .now) (g .nodes .now) (passed (c .before .before .before .before)) (λ e. c .before .if2 .taken (e ∙ sym (size (c .before .before)))) in
-    (c .refused2 .ensures ∙ r .answer, r .kept)
+    (c .refused2 .ensures ∙ r .answer-is, r .buffer-is)
 
 read-bodies-requires : tie.Need-read-bodies-requires
 read-bodies-requires c κs =
@@ -53,7 +53,7 @@ returns-3 : tie.Need-returns-3
 returns-3 c =
     let g = c .before .before .before .before .before .before .before .before .before .before .before .before .before .before .args in
     let r = read-done (g .bytes .now) (g .nodes .now) (passed (c .before .before .before .before .before .before .before .before .before .before)) (c .before .before .before .before .before .before .before .if2 .left ∙ size (c .before .before .before .before .before .before .before .before)) in
-    (rw (c .box-session .ensures) (r .answer), rw (c .before .before .before .read-bodies .ensures, c .before .before .before .before .before .names .ensures, c .before .before .before .before .bodies .ensures, c .before .before .before .before .before .before .before .before .before .block-length .ensures) (r .written))
+    (rw (c .box-session .ensures) (r .answer-is), rw (c .before .before .before .read-bodies .ensures, c .before .before .before .before .before .names .ensures, c .before .before .before .before .bodies .ensures, c .before .before .before .before .before .before .before .before .before .block-length .ensures) (r .buffer-is))
 
 pub read-spec : {M : Type 1} → statement M
 read-spec =

@@ -27,25 +27,25 @@ returns : tie.Need-returns
 returns c =
     let g = c .before .before .before .before .before .args in
     let r = by-nodes (g .self) (g .nodes .now) (g .object .now) _ (c .before .before .nodes-refusal .ensures) (c .before .if1 .taken) in
-    (c .out-answer .ensures ∙ r .answer, r .kept)
+    (c .out-answer .ensures ∙ r .answer-is, r .buffer-is)
 
 returns-2 : tie.Need-returns-2
 returns-2 c =
     let g = c .before .before .before .before .before .before .before .args in
     let r = by-object (g .self) (g .nodes .now) (g .object .now) (passed (c .before .before .before)) (c .before .if2 .taken) in
-    (c .out-answer2 .ensures ∙ r .answer, r .kept)
+    (c .out-answer2 .ensures ∙ r .answer-is, r .buffer-is)
 
 returns-3 : tie.Need-returns-3
 returns-3 c =
     let g = c .before .before .before .before .before .before .before .before .before .before .before .args in
     let r = by-block (g .self) (g .nodes .now) (g .object .now) (passed (c .before .before .before .before .before .before .before)) (c .before .before .before .before .before .if2 .left) _ (block-is (c .before)) (c .if3 .taken) in
-    (r .answer, r .kept)
+    (r .answer-is, r .buffer-is)
 
 returns-4 : tie.Need-returns-4
 returns-4 c =
     let g = c .before .before .before .before .before .before .before .before .before .before .before .before .before .before .before .before .args in
     let r = read (g .self) (g .nodes .now) (g .object .now) (accepted-out (g .self) (g .nodes .now) (g .object .now) (passed (c .before .before .before .before .before .before .before .before .before .before .before .before)) (c .before .before .before .before .before .before .before .before .before .before .if2 .left) (sym (block-is (c .before .before .before .before .before .before)) ∙ c .before .before .before .before .before .if3 .left)) in
-    (c .out-answer3 .ensures ∙ r .answer, (rw (c .before .before .before .before .before .before .before .before .before .family-of .ensures) at (c .before .before .before .copy-data-blocks .ensures)) ∙ r .written)
+    (c .out-answer3 .ensures ∙ r .answer-is, (rw (c .before .before .before .before .before .before .before .before .before .family-of .ensures) at (c .before .before .before .copy-data-blocks .ensures)) ∙ r .buffer-is)
 
 pub read-out-spec : {M : Type 1} → statement M
 read-out-spec =

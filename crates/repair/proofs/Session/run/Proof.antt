@@ -26,7 +26,7 @@ returns : tie.Need-returns
 unfolding runChecks
 returns c =
     let r = run-refused (c .before .before .before .before .args .self) (c .before .before .before .before .args .nodes .now) (c .before .before .nodes-refusal .result) (c .before .before .nodes-refusal .ensures) (c .before .if1 .taken) in
-    (c .no-repairs .ensures ∙ r .answer-is, r .nodes-are)
+    (c .no-repairs .ensures ∙ r .answer-is, r .buffer-is)
 
 draw-up-requires : tie.Need-draw-up-requires
 draw-up-requires c κs = (buffer (c .before .before) .starts, search needs)
@@ -48,7 +48,7 @@ returns-2 c =
     let d = c .before .before .before .before .before .before .before .before .draw-up in
     let r = run-made s (c .before .before .before .before .before .before .before .before .before .before .before .before .before .before .args .nodes .now) (passed (c .before .before .before .before .before .before .before .before .before .before .before)) in (
       c .counted .ensures ∙ made-ran s (d .result) (d .ensures .0 .0) ∙ r .answer-is,
-      c .before .before .before .before .carry-out .ensures ∙ ap (λ (steps : List Step). nodesMade (s .len) (c .before .before .before .before .before .before .before .before .before .before .before .before .before .before .args .nodes .now) steps) (made-back s (d .result) (d .ensures .0 .0) _ _ (d .ensures .1)) ∙ r .nodes-are,
+      c .before .before .before .before .carry-out .ensures ∙ ap (λ (steps : List Step). nodesMade (s .len) (c .before .before .before .before .before .before .before .before .before .before .before .before .before .before .args .nodes .now) steps) (made-back s (d .result) (d .ensures .0 .0) _ _ (d .ensures .1)) ∙ r .buffer-is,
     )
 
 pub run-spec : {M : Type 1} → statement M

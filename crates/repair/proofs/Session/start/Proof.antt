@@ -1,8 +1,8 @@
 -- `repair::Session::start` meets its contract.
 -- Assumes nothing.
 use mathlib.Core.Path.{sym, _∙_, ap}
-use borrow.Author.Tests.{ne-eqb}
-use Rattle.repair.specs.Session.{started, refusedStart}
+use Rattle.checks.proofs.AnswerLaws.{answer-refused}
+use Rattle.repair.specs.Session.{refusedStart, startChecks, started}
 use borrow.Author.Needs.{needs}
 use Rattle.repair.proofs.Session.start.Statement.{statement}
 use Rattle.repair.proofs.Session.start.Tie as tie
@@ -11,7 +11,7 @@ returns : tie.Need-returns
 unfolding started
 returns c =
     let e = c .before .before .start-refusal .ensures in
-    rw (ne-eqb _ 0 (rw e at (c .before .if1 .taken))) (c .refused .ensures ∙ ap refusedStart e)
+    c .refused .ensures ∙ ap refusedStart e ∙ sym (answer-refused (startChecks _ _ _ _) _ refusedStart (λ z. c .before .if1 .taken (e ∙ z)))
 
 returns-2 : tie.Need-returns-2
 unfolding started

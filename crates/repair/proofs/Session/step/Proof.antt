@@ -16,7 +16,7 @@ is-accepted c = accepted-step _ _ _ (sym (c .before .step-refusal .ensures) ∙ 
 returns : tie.Need-returns
 returns c =
     let r = step-refused _ _ _ _ _ _ (c .before .step-refusal .ensures) (c .if1 .taken) in
-    (r .answer-is, r .nodes-are)
+    (r .answer-is, r .buffer-is)
 
 xor-block-requires : tie.Need-xor-block-requires
 xor-block-requires c κs =
@@ -33,7 +33,7 @@ unfolding setLive
 returns-2 c =
     let g = c .before .before .before .before .before .before .before .before .args in
     let r = step-made (g .t1) (g .nodes .now) (g .node) (g .first) (g .second) (sym (c .before .before .before .before .before .step-refusal .ensures) ∙ c .before .before .before .before .if1 .left) in
-    (r .answer-is, c .before .before .xor-block .ensures ∙ r .nodes-are)
+    (r .answer-is, c .before .before .xor-block .ensures ∙ r .buffer-is)
 
 pub step-spec : {M : Type 1} → statement M
 step-spec =

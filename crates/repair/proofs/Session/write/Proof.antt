@@ -14,7 +14,7 @@ returns : tie.Need-returns
 returns c =
     let g = c .before .before .before .before .before .args in
     let r = write-by-list (g .self) (g .nodes .now) (g .list .now) (g .out .now) _ (c .before .list-refusal .ensures) (c .if1 .taken) in
-    (r .answer, r .kept)
+    (r .answer-is, r .buffer-is)
 
 write-live-requires : tie.Need-write-live-requires
 write-live-requires c κs =
@@ -25,7 +25,7 @@ returns-2 : tie.Need-returns-2
 returns-2 c =
     let g = c .before .before .before .before .before .before .before .before .before .before .args in
     let r = write-done (g .self) (g .nodes .now) (g .list .now) (g .out .now) (sym (c .before .before .before .before .before .before .list-refusal .ensures) ∙ c .before .before .before .before .before .if1 .left) _ (listed-all (g .self) (g .list .now) (c .before .before .before .before .if2 .taken)) in
-    (c .before .before .write-live .ensures .0 ∙ r .answer, c .before .before .write-live .ensures .1 ∙ r .bytes)
+    (c .before .before .write-live .ensures .0 ∙ r .answer-is, c .before .before .write-live .ensures .1 ∙ r .buffer-is)
 
 write-listed-requires : tie.Need-write-listed-requires
 write-listed-requires c κs =
@@ -37,7 +37,7 @@ returns-3 : tie.Need-returns-3
 returns-3 c =
     let g = c .before .before .before .before .before .before .before .before .before .before .args in
     let r = write-done (g .self) (g .nodes .now) (g .list .now) (g .out .now) (sym (c .before .before .before .before .before .before .list-refusal .ensures) ∙ c .before .before .before .before .before .if1 .left) _ (listed-some (g .self) (g .list .now) (c .before .before .before .before .if2 .left)) in
-    (c .before .before .write-listed .ensures .0 ∙ r .answer, c .before .before .write-listed .ensures .1 ∙ r .bytes)
+    (c .before .before .write-listed .ensures .0 ∙ r .answer-is, c .before .before .write-listed .ensures .1 ∙ r .buffer-is)
 
 pub write-spec : {M : Type 1} → statement M
 write-spec =
