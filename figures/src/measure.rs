@@ -1,6 +1,5 @@
 //! Times of encode, plan and run as n and L grow. All nodes but the data blocks' are missing, so that a run makes all
 //! that encoding makes.
-use crate::cost::{Costs, FAMILIES, Family, LEN, Row};
 use mogtriz::{SIMPLEX, Session, WEIGHT_TWO, node_count, node_of_column};
 use std::hint::black_box;
 use std::process::Command;
@@ -13,9 +12,32 @@ const PASSES: usize = 20;
 const READINGS: usize = 10;
 /// Calls behind one reading.
 const CALLS: u32 = 8;
+/// The L at which n grows.
+const LEN: usize = 1536;
 const LENGTHS: [usize; 8] = [64, 128, 256, 512, 1024, LEN, 2048, 4096];
 
-/// A code with its L, and the microseconds of calls of each operation.
+/// A family with its largest k, at which L grows.
+#[derive(Clone, Copy)]
+struct Family {
+    name: &'static str,
+    number: usize,
+    most_k: usize,
+}
+
+const FAMILIES: [Family; 2] = [
+    Family {
+        name: "simplex",
+        number: SIMPLEX,
+        most_k: 8,
+    },
+    Family {
+        name: "weight-two",
+        number: WEIGHT_TWO,
+        most_k: 22,
+    },
+];
+
+/// A code with its L, and the microseconds of calls of encode, plan and run.
 struct Case {
     family: Family,
     k: usize,
@@ -23,22 +45,24 @@ struct Case {
     times: [Vec<f64>; 3],
 }
 
-pub fn costs() -> io::Result<Costs> {
+/// A line that says where and when it was measured, the names of the columns, and a line for each case.
+pub fn csv() -> io::Result<String> {
     let mut cases = cases();
     for _ in 0..PASSES {
         cases.iter_mut().for_each(Case::measure);
     }
-    let measured = format!(
-        "{}, {}, load {}; microseconds a call, the fastest tenth of {} readings",
+    let mut text = format!(
+        "# {}, {}, load {}; microseconds a call, the fastest tenth of {} readings\n",
         cpu_model()?,
         today()?,
         load()?,
         PASSES * READINGS
     );
-    Ok(Costs {
-        measured,
-        rows: cases.into_iter().map(Case::row).collect(),
-    })
+    text += "family,k,n,L,encode,plan,run\n";
+    for case in cases {
+        text += &case.line();
+    }
+    Ok(text)
 }
 
 /// Every k at one L, then the largest at the other L.
@@ -51,28 +75,20 @@ fn cases() -> Vec<Case> {
             len,
             times: Default::default(),
         };
-        let most = family.most_k();
-        cases.extend((2..=most).map(|k| case(k, LEN)));
+        cases.extend((2..=family.most_k).map(|k| case(k, LEN)));
         let others = LENGTHS.into_iter().filter(|&len| len != LEN);
-        cases.extend(others.map(|len| case(most, len)));
+        cases.extend(others.map(|len| case(family.most_k, len)));
     }
     cases
 }
 
 impl Case {
-    fn number(&self) -> usize {
-        match self.family {
-            Family::Simplex => SIMPLEX,
-            Family::WeightTwo => WEIGHT_TWO,
-        }
-    }
-
     fn n(&self) -> usize {
-        node_count(self.number(), self.k).expect("a code")
+        node_count(self.family.number, self.k).expect("a code")
     }
 
     fn measure(&mut self) {
-        let (family, k, len, n) = (self.number(), self.k, self.len, self.n());
+        let (family, k, len, n) = (self.family.number, self.k, self.len, self.n());
         let data_node = |i: usize| node_of_column(family, k, 1 << i).expect("a data node");
         let live: Vec<u8> = (0..k).map(|i| data_node(i) as u8).collect();
         let session = Session::start(family, k, len, &live).expect("a sound start");
@@ -91,21 +107,19 @@ impl Case {
         }));
     }
 
-    /// The fastest tenth, which other work on the machine disturbs less.
-    fn row(self) -> Row {
-        let n = self.n();
-        let times = self.times.map(|mut times| {
-            times.sort_by(f64::total_cmp);
-            times[times.len() / 10]
-        });
-        Row {
-            family: self.family,
-            k: self.k,
-            n,
-            len: self.len,
-            times,
-        }
+    fn line(self) -> String {
+        let (n, Case { family, k, len, .. }) = (self.n(), &self);
+        let name = family.name;
+        let [encode, plan, run] = self.times.each_ref().map(|times| fastest_tenth(times));
+        format!("{name},{k},{n},{len},{encode:.3},{plan:.3},{run:.3}\n")
     }
+}
+
+/// The time that a tenth stay under: other work on the machine disturbs it less than a median.
+fn fastest_tenth(times: &[f64]) -> f64 {
+    let mut times = times.to_vec();
+    times.sort_by(f64::total_cmp);
+    times[times.len() / 10]
 }
 
 /// The microseconds of a call, which has to be served.

@@ -159,8 +159,8 @@ fn panel(drawing: &mut Drawing, left: f64, case: &Case, plan: &Plan) {
     }
     for &[round, node, smaller, larger] in &plan.steps {
         for source in [smaller, larger] {
-            let ends = [place(round, node), place(round - 1, source)];
-            drawing.line(&ends, Stroke::new(LIVE[round].edge, 1.5));
+            let (from, to) = (place(round, node), place(round - 1, source));
+            drawing.line(from, to, Stroke::new(LIVE[round].edge, 1.5));
         }
     }
     for node in 1..=plan.n {

@@ -48,38 +48,21 @@ impl Type {
     }
 }
 
-/// A line's colour, its width and its dashes; no dashes make it whole.
+/// A line's colour and its width.
 #[derive(Clone, Copy)]
 pub struct Stroke {
     pub colour: &'static str,
     pub width: f64,
-    pub dashes: &'static str,
 }
 
 impl Stroke {
     pub fn new(colour: &'static str, width: f64) -> Stroke {
-        Stroke {
-            colour,
-            width,
-            dashes: "",
-        }
-    }
-
-    pub fn dashed(self, dashes: &'static str) -> Stroke {
-        Stroke { dashes, ..self }
+        Stroke { colour, width }
     }
 
     fn attributes(self) -> String {
-        let Stroke {
-            colour,
-            width,
-            dashes,
-        } = self;
-        let mut text = format!(r#"stroke="{colour}" stroke-width="{width}""#);
-        if !dashes.is_empty() {
-            text += &format!(r#" stroke-dasharray="{dashes}""#);
-        }
-        text
+        let Stroke { colour, width } = self;
+        format!(r#"stroke="{colour}" stroke-width="{width}""#)
     }
 }
 
@@ -108,37 +91,11 @@ impl Drawing {
         writeln!(self.elements, "{element}").expect("a String takes any text");
     }
 
-    /// A line through the points; it ends where the last one is.
-    pub fn line(&mut self, points: &[Point], stroke: Stroke) {
-        let places: Vec<String> = points
-            .iter()
-            .map(|p| format!("{:.1},{:.1}", p.x, p.y))
-            .collect();
-        let (places, stroke) = (places.join(" "), stroke.attributes());
+    pub fn line(&mut self, from: Point, to: Point, stroke: Stroke) {
+        let places = format!("{:.1},{:.1} {:.1},{:.1}", from.x, from.y, to.x, to.y);
+        let stroke = stroke.attributes();
         self.element(format!(
             r#"<polyline points="{places}" fill="none" {stroke}/>"#
-        ));
-    }
-
-    /// A curve that leaves and arrives upright.
-    pub fn curve(&mut self, from: Point, to: Point, stroke: Stroke) {
-        let middle = (from.y + to.y) / 2.0;
-        let places = format!(
-            "M{:.1},{:.1} C{:.1},{middle:.1} {:.1},{middle:.1} {:.1},{:.1}",
-            from.x, from.y, from.x, to.x, to.x, to.y
-        );
-        let stroke = stroke.attributes();
-        self.element(format!(r#"<path d="{places}" fill="none" {stroke}/>"#));
-    }
-
-    pub fn shape(&mut self, corners: &[Point], fill: &str, stroke: Stroke) {
-        let places: Vec<String> = corners
-            .iter()
-            .map(|p| format!("{:.1},{:.1}", p.x, p.y))
-            .collect();
-        let (places, stroke) = (places.join(" "), stroke.attributes());
-        self.element(format!(
-            r#"<polygon points="{places}" fill="{fill}" {stroke}/>"#
         ));
     }
 
@@ -150,24 +107,23 @@ impl Drawing {
         ));
     }
 
-    /// A rectangle with round corners, given by its upper left one.
-    pub fn boxed(&mut self, corner: Point, width: f64, height: f64, fill: &str, stroke: Stroke) {
-        let Point { x, y } = corner;
-        let stroke = stroke.attributes();
-        self.element(format!(
-            r#"<rect x="{x:.1}" y="{y:.1}" width="{width:.1}" height="{height:.1}" rx="4" fill="{fill}" {stroke}/>"#
-        ));
-    }
-
-    /// A line of text on a base line.
+    /// A line of text on a base line; none of the texts has a letter that SVG reserves.
     pub fn text(&mut self, place: Point, text: &str, kind: Type) {
-        self.element(text_at(place, text, kind, ""));
-    }
-
-    /// A line of text that goes upward.
-    pub fn text_upward(&mut self, place: Point, text: &str, kind: Type) {
-        let turn = format!(r#" transform="rotate(-90 {:.1} {:.1})""#, place.x, place.y);
-        self.element(text_at(place, text, kind, &turn));
+        let anchor = match kind.anchor {
+            Anchor::Start => "start",
+            Anchor::Middle => "middle",
+            Anchor::End => "end",
+        };
+        let weight = if kind.bold {
+            r#" font-weight="bold""#
+        } else {
+            ""
+        };
+        let Point { x, y } = place;
+        let Type { size, colour, .. } = kind;
+        self.element(format!(
+            r#"<text x="{x:.1}" y="{y:.1}" font-size="{size}"{weight} fill="{colour}" text-anchor="{anchor}">{text}</text>"#
+        ));
     }
 
     pub fn finish(self) -> String {
@@ -182,26 +138,4 @@ impl Drawing {
 "#
         )
     }
-}
-
-fn text_at(place: Point, text: &str, kind: Type, more: &str) -> String {
-    let anchor = match kind.anchor {
-        Anchor::Start => "start",
-        Anchor::Middle => "middle",
-        Anchor::End => "end",
-    };
-    let weight = if kind.bold {
-        r#" font-weight="bold""#
-    } else {
-        ""
-    };
-    let Point { x, y } = place;
-    let Type { size, colour, .. } = kind;
-    let text = text
-        .replace('&', "&amp;")
-        .replace('<', "&lt;")
-        .replace('>', "&gt;");
-    format!(
-        r#"<text x="{x:.1}" y="{y:.1}" font-size="{size}"{weight} fill="{colour}" text-anchor="{anchor}"{more}>{text}</text>"#
-    )
 }
