@@ -1,9 +1,9 @@
 //! The C interface, include/mogtriz.h, as it stands: its calls and the layouts that cross them, declared for Rust here alone. The
 //! only unsafe code of the package is these calls. Hidden, as the package's own types are for callers; what is held against the
 //! library uses it too.
-use std::fmt;
+use core::fmt;
 
-/// MOGTRIZ_VERSION of the header that this is declared from.
+/// `MOGTRIZ_VERSION` of the header that this is declared from.
 pub const VERSION: usize = 1;
 
 /// How many marks a session holds, by node number.
@@ -12,7 +12,7 @@ pub const MARKS: usize = 256;
 /// The largest number that a refusal has; tables by number have a place for each up to it, and for 0.
 pub const MOST_REFUSAL: usize = 14;
 
-/// C's mogtriz_session: 1 marks a live node and 0 a missing one, and a caller may hand in anything.
+/// C's `mogtriz_session`: 1 marks a live node and 0 a missing one, and a caller may hand in anything.
 #[repr(C)]
 #[derive(Clone, Copy, PartialEq, Eq, Hash)]
 pub struct Session {
@@ -22,7 +22,7 @@ pub struct Session {
     pub live: [u8; MARKS],
 }
 
-/// C's mogtriz_started: what a start or a box gives.
+/// C's `mogtriz_started`: what a start or a box gives.
 #[repr(C)]
 #[derive(Clone, Copy, Debug, PartialEq, Eq)]
 pub struct Started {
@@ -30,7 +30,7 @@ pub struct Started {
     pub session: Session,
 }
 
-/// C's mogtriz_written: what writing a box gives, with the box's length.
+/// C's `mogtriz_written`: what writing a box gives, with the box's length.
 #[repr(C)]
 #[derive(Clone, Copy, Debug, PartialEq, Eq)]
 pub struct Written {
@@ -39,7 +39,7 @@ pub struct Written {
     pub session: Session,
 }
 
-/// C's mogtriz_read_out_answer: what reading out gives, with the data block that goes with 14.
+/// C's `mogtriz_read_out_answer`: what reading out gives, with the data block that goes with 14.
 #[repr(C)]
 #[derive(Clone, Copy, Debug, PartialEq, Eq)]
 pub struct ReadOut {
@@ -48,7 +48,7 @@ pub struct ReadOut {
     pub session: Session,
 }
 
-/// C's mogtriz_stepped: what a step gives, with the next session.
+/// C's `mogtriz_stepped`: what a step gives, with the next session.
 #[repr(C)]
 #[derive(Clone, Copy, Debug, PartialEq, Eq)]
 pub struct Stepped {
@@ -56,7 +56,7 @@ pub struct Stepped {
     pub session: Session,
 }
 
-/// C's mogtriz_repairs: what a plan or a run gives, its counts, and the session, which for a run is the next one.
+/// C's `mogtriz_repairs`: what a plan or a run gives, its counts, and the session, which for a run is the next one.
 #[repr(C)]
 #[derive(Clone, Copy, Debug, PartialEq, Eq)]
 pub struct Repairs {
@@ -67,7 +67,7 @@ pub struct Repairs {
     pub session: Session,
 }
 
-/// C's mogtriz_part, a part of a box: `length` bytes from place `from` on.
+/// C's `mogtriz_part`, a part of a box: `length` bytes from place `from` on.
 #[repr(C)]
 #[derive(Clone, Copy, Debug, PartialEq, Eq)]
 pub struct Part {
@@ -144,6 +144,7 @@ unsafe extern "C" {
 }
 
 /// 1 where three nodes are related, else 0.
+#[must_use]
 pub fn related(family: usize, k: usize, nodes: [usize; 3]) -> u8 {
     let [a, b, c] = nodes;
     mogtriz_related(family, k, a, b, c)
@@ -167,11 +168,13 @@ pub fn encode(family: usize, k: usize, len: usize, object: &[u8], nodes: &mut [u
     }
 }
 
+#[must_use]
 pub fn start(family: usize, k: usize, len: usize, list: &[u8]) -> Started {
     // SAFETY: as above.
     unsafe { mogtriz_start(family, k, len, list.as_ptr(), list.len()) }
 }
 
+#[must_use]
 pub fn check(bytes: &[u8]) -> Started {
     // SAFETY: as above.
     unsafe { mogtriz_check(bytes.as_ptr(), bytes.len()) }
@@ -182,6 +185,7 @@ pub fn read(bytes: &[u8], nodes: &mut [u8]) -> Started {
     unsafe { mogtriz_read(bytes.as_ptr(), bytes.len(), nodes.as_mut_ptr(), nodes.len()) }
 }
 
+#[must_use]
 pub fn body(bytes: &[u8], node: usize) -> Part {
     // SAFETY: as above.
     unsafe { mogtriz_body(bytes.as_ptr(), bytes.len(), node) }

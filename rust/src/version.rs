@@ -14,6 +14,7 @@ pub const VERSION: usize = raw::VERSION;
 /// ```
 /// assert_eq!(mogtriz::version(), mogtriz::VERSION);
 /// ```
+#[must_use]
 pub fn version() -> usize {
     raw::mogtriz_version()
 }
