@@ -58,8 +58,8 @@ impl Full {
     fn write(&self, meter: &mut Meter) -> Vec<Vec<f64>> {
         let session = handed_in(self.shape.session(&self.list));
         let mogtriz = |nodes: &[u8], out: &mut [u8]| {
-            let written = session.clone().write(nodes, &[], out);
-            assert_eq!(written.expect("a sound call").length, out.len());
+            let length = session.write(nodes, &[], out);
+            assert_eq!(length.expect("a sound call"), out.len());
         };
         let rust = |nodes: &[u8], out: &mut [u8]| {
             let bodies = &mut out[self.bodies_from()..];

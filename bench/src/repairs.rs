@@ -9,7 +9,7 @@ use compare::papers::code;
 use compare::planner;
 use compare::random::Random;
 use compare::samples::Shape;
-use mogtriz::{Refused, Repairs};
+use mogtriz::{Refusal, Repairs};
 
 /// A code with its live nodes, and how a table names them.
 struct Case {
@@ -49,7 +49,7 @@ fn data_nodes() -> Vec<u8> {
     (0..8).map(|i| 1 << i).collect()
 }
 
-fn counts(answer: Result<Repairs, Refused>) -> [usize; 3] {
+fn counts(answer: Result<Repairs, Refusal>) -> [usize; 3] {
     let repairs = answer.expect("a sound call");
     [repairs.steps, repairs.rounds, repairs.left]
 }
@@ -67,7 +67,8 @@ fn plan(case: Case, meter: &mut Meter) -> Line {
     let wanted = [plan.steps.len(), plan.rounds, left];
     let handed_in = handed_in(session);
     let mogtriz = |_: &[u8], out: &mut [u8]| {
-        assert_eq!(counts(handed_in.clone().plan(out)), wanted);
+        let plan = handed_in.plan(out);
+        assert_eq!(counts(plan.map(|plan| plan.repairs)), wanted);
     };
     let rust = |_: &[u8], out: &mut [u8]| {
         assert_eq!(rivals::plan(family, k, &session.live, out), wanted);
@@ -112,6 +113,7 @@ fn run(len: usize, goals: [Option<f64>; 3], random: &mut Random, meter: &mut Met
     let wanted = [repairs.steps, repairs.rounds, repairs.left];
     let handed_in = handed_in(session);
     let mogtriz = |_: &[u8], nodes: &mut [u8]| {
+        // a run marks the nodes that it repairs, and each is to have all of them to repair
         assert_eq!(counts(handed_in.clone().run(nodes)), wanted);
     };
     let rust = |_: &[u8], nodes: &mut [u8]| rivals::repair(&steps, len, nodes, rivals::xor);

@@ -1,6 +1,6 @@
 //! One call made of the library and of the papers' model: what it gives and every byte lent have to agree.
-//! Each function gives the call's number; those that go on from a session give the answer. Where the Rust package leaves
-//! out a part of the answer, the call is made of C besides: it writes the same bytes again.
+//! Each function gives the call's number; those that go on from a session give the answer. As the Rust package leaves out a
+//! part of each answer, every call is made of C besides: it writes the same bytes again.
 use crate::guarded::Guarded;
 use crate::{boxes, library, planner};
 use mogtriz::raw::{self, Repairs, Session, Stepped};
@@ -18,20 +18,23 @@ fn written_as(lent: &Guarded, wanted: &[u8]) -> bool {
 
 pub fn start(family: usize, k: usize, len: usize, list: &[u8]) -> u8 {
     let lent = Guarded::holding(list);
-    let got = library::start(family, k, len, lent.bytes());
     let wanted = boxes::start(family, k, len, list);
     let place = || format!("start family {family} k {k} L {len} list {}", shown(list));
-    assert_eq!(got, wanted, "{}", place());
+    for start in [library::start, raw::start] {
+        let got = start(family, k, len, lent.bytes());
+        assert_eq!(got, wanted, "{}", place());
+    }
     assert!(lent.untouched(), "{}: the list was written to", place());
     wanted.refusal
 }
 
 pub fn check(bytes: &[u8]) -> u8 {
     let lent = Guarded::holding(bytes);
-    let got = library::check(lent.bytes());
     let wanted = boxes::check(bytes);
     let place = || format!("check {}", shown(bytes));
-    assert_eq!(got, wanted, "{}", place());
+    for check in [library::check, raw::check] {
+        assert_eq!(check(lent.bytes()), wanted, "{}", place());
+    }
     assert!(lent.untouched(), "{}: the box was written to", place());
     wanted.refusal
 }
@@ -40,12 +43,14 @@ pub fn read(bytes: &[u8], nodes_len: usize) -> u8 {
     let lent = Guarded::holding(bytes);
     let mut nodes = Guarded::filled(nodes_len);
     let mut expected = nodes.bytes().to_vec();
-    let got = library::read(lent.bytes(), nodes.bytes_mut());
     let wanted = boxes::read(bytes, &mut expected);
     let place = || format!("read {} into {nodes_len}", shown(bytes));
-    assert_eq!(got, wanted, "{}", place());
-    let as_wanted = written_as(&nodes, &expected);
-    assert!(as_wanted, "{}: the nodes differ", place());
+    for read in [library::read, raw::read] {
+        let got = read(lent.bytes(), nodes.bytes_mut());
+        assert_eq!(got, wanted, "{}", place());
+        let as_wanted = written_as(&nodes, &expected);
+        assert!(as_wanted, "{}: the nodes differ", place());
+    }
     assert!(lent.untouched(), "{}: the box was written to", place());
     wanted.refusal
 }
@@ -104,12 +109,14 @@ pub fn read_out(session: Session, nodes: &[u8], object_len: usize) -> u8 {
 /// The nodes are left as the call leaves them.
 pub fn step(session: Session, nodes: &mut [u8], triple: [usize; 3]) -> Stepped {
     let mut lent = Guarded::holding(nodes);
-    let got = library::step(session, lent.bytes_mut(), triple);
     let wanted = planner::step(session, nodes, triple);
     let place = || format!("step {triple:?} {session:?} nodes {}", nodes.len());
-    assert_eq!(got, wanted, "{}", place());
-    let as_wanted = written_as(&lent, nodes);
-    assert!(as_wanted, "{}: the nodes differ", place());
+    for step in [library::step, raw::step] {
+        let got = step(session, lent.bytes_mut(), triple);
+        assert_eq!(got, wanted, "{}", place());
+        let as_wanted = written_as(&lent, nodes);
+        assert!(as_wanted, "{}: the nodes differ", place());
+    }
     wanted
 }
 

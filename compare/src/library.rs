@@ -1,11 +1,13 @@
-//! The library by its Rust package, its answers put as the papers have them. What a refusal comes with besides its number
-//! and session is not in the package's; the zeros here stand for it, and `mogtriz::raw` has what C gives.
+//! The library by its Rust package, its answers put as the papers have them. A refusal is a number there, with a block where
+//! it is 14, and a session is lent and not given back: the zeros that come with a refusal, and the session of zeros of a
+//! refused start or box, stand here for what C gives, and a session is what the call left of the one lent to it.
+//! `mogtriz::raw` has what C gives.
+use crate::boxes::NO_SESSION;
+use mogtriz::Refusal;
 use mogtriz::raw::{Part, ReadOut, Repairs, Session, Started, Stepped, Written};
-use mogtriz::{Refusal, Refused};
 
 pub fn encode(family: usize, k: usize, len: usize, object: &[u8], nodes: &mut [u8]) -> u8 {
-    let answer = mogtriz::encode(family, k, len, object, nodes);
-    answer.map_or_else(Refusal::number, |()| 0)
+    number(mogtriz::encode(family, k, len, object, nodes))
 }
 
 pub fn node_count(family: usize, k: usize) -> usize {
@@ -53,49 +55,46 @@ pub fn body(bytes: &[u8], node: usize) -> Part {
 }
 
 pub fn write(session: Session, nodes: &[u8], list: &[u8], out: &mut [u8]) -> Written {
-    match handed_in(session).write(nodes, list, out) {
-        Ok(written) => Written {
-            refusal: 0,
-            length: written.length,
-            session: given_back(&written.session),
-        },
-        Err(refused) => Written {
-            refusal: refused.refusal.number(),
-            length: 0,
-            session: given_back(&refused.session),
-        },
+    let session = handed_in(session);
+    let answer = session.write(nodes, list, out);
+    Written {
+        refusal: number(answer),
+        length: answer.unwrap_or(0),
+        session: left_of(&session),
     }
 }
 
 pub fn read_out(session: Session, nodes: &[u8], object: &mut [u8]) -> ReadOut {
-    match handed_in(session).read_out(nodes, object) {
-        Ok(session) => ReadOut {
-            refusal: 0,
-            block: 0,
-            session: given_back(&session),
-        },
-        Err(refused) => ReadOut {
-            refusal: refused.refusal.number(),
-            block: block_of(refused.refusal),
-            session: given_back(&refused.session),
-        },
+    let session = handed_in(session);
+    let answer = session.read_out(nodes, object);
+    ReadOut {
+        refusal: number(answer),
+        block: answer.map_or_else(block_of, |()| 0),
+        session: left_of(&session),
     }
 }
 
 /// The triple is the node to repair and the two that it comes from.
 pub fn step(session: Session, nodes: &mut [u8], triple: [usize; 3]) -> Stepped {
     let [node, first, second] = triple;
-    let stepped = handed_in(session).step(nodes, node, [first, second]);
-    let Started { refusal, session } = started(stepped);
-    Stepped { refusal, session }
+    let mut session = handed_in(session);
+    let answer = session.step(nodes, node, [first, second]);
+    Stepped {
+        refusal: number(answer),
+        session: left_of(&session),
+    }
 }
 
 pub fn plan(session: Session, out: &mut [u8]) -> Repairs {
-    repairs(handed_in(session).plan(out))
+    let session = handed_in(session);
+    let answer = session.plan(out).map(|plan| plan.repairs);
+    repairs(answer, &session)
 }
 
 pub fn run(session: Session, nodes: &mut [u8]) -> Repairs {
-    repairs(handed_in(session).run(nodes))
+    let mut session = handed_in(session);
+    let answer = session.run(nodes);
+    repairs(answer, &session)
 }
 
 /// A session of any content, for the package.
@@ -109,7 +108,7 @@ pub fn handed_in(session: Session) -> mogtriz::Session {
     mogtriz::Session::from_parts(family, k, len, live)
 }
 
-fn given_back(session: &mogtriz::Session) -> Session {
+fn left_of(session: &mogtriz::Session) -> Session {
     Session {
         family: session.family(),
         k: session.k(),
@@ -118,14 +117,15 @@ fn given_back(session: &mogtriz::Session) -> Session {
     }
 }
 
-fn started(answer: Result<mogtriz::Session, Refused>) -> Started {
-    let (refusal, session) = match answer {
-        Ok(session) => (0, session),
-        Err(refused) => (refused.refusal.number(), refused.session),
-    };
+/// 0 for a call that is served.
+fn number<Given>(answer: Result<Given, Refusal>) -> u8 {
+    answer.map_or_else(Refusal::number, |_| 0)
+}
+
+fn started(answer: Result<mogtriz::Session, Refusal>) -> Started {
     Started {
-        refusal,
-        session: given_back(&session),
+        session: answer.as_ref().map_or(NO_SESSION, left_of),
+        refusal: number(answer),
     }
 }
 
@@ -136,21 +136,14 @@ fn block_of(refusal: Refusal) -> usize {
     }
 }
 
-fn repairs(answer: Result<mogtriz::Repairs, Refused>) -> Repairs {
-    match answer {
-        Ok(repairs) => Repairs {
-            refusal: 0,
-            steps: repairs.steps,
-            rounds: repairs.rounds,
-            left: repairs.left,
-            session: given_back(&repairs.session),
-        },
-        Err(refused) => Repairs {
-            refusal: refused.refusal.number(),
-            steps: 0,
-            rounds: 0,
-            left: 0,
-            session: given_back(&refused.session),
-        },
+fn repairs(answer: Result<mogtriz::Repairs, Refusal>, session: &mogtriz::Session) -> Repairs {
+    let counts = answer.map_or([0; 3], |given| [given.steps, given.rounds, given.left]);
+    let [steps, rounds, left] = counts;
+    Repairs {
+        refusal: number(answer),
+        steps,
+        rounds,
+        left,
+        session: left_of(session),
     }
 }

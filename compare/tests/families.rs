@@ -41,9 +41,11 @@ fn place(code: &Code) -> String {
 fn node_counts_follow_the_formulas() {
     let mut count = 0;
     for code in every_code() {
-        let n = library::node_count(code.family, code.k);
-        assert_eq!(n, node_count(code.family, code.k), "{}", place(&code));
-        assert_eq!(n, code.n(), "{}: the matrix", place(&code));
+        let from_c = raw::mogtriz_node_count(code.family, code.k);
+        for n in [library::node_count(code.family, code.k), from_c] {
+            assert_eq!(n, node_count(code.family, code.k), "{}", place(&code));
+            assert_eq!(n, code.n(), "{}: the matrix", place(&code));
+        }
         count += 1;
     }
     println!("{count} node counts");
@@ -56,6 +58,7 @@ fn a_family_or_k_out_of_range_has_no_nodes() {
     for &(family, k) in &none {
         let place = format!("family {family} k {k}");
         assert_eq!(library::node_count(family, k), 0, "{place}");
+        assert_eq!(raw::mogtriz_node_count(family, k), 0, "{place}");
         assert_eq!(library::column(family, k, 1), 0, "{place}");
         assert_eq!(library::node_of_column(family, k, 1), 0, "{place}");
         // these are related in the simplex, weight-two and tetrahedron codes that cut numbers would give

@@ -8,7 +8,7 @@ use compare::papers::{Code, every_code};
 use compare::random::Random;
 use compare::samples::{Shape, nodes_in};
 use compare::{calls, library};
-use mogtriz::raw::{Repairs, Session};
+use mogtriz::raw::{self, Repairs, Session};
 
 /// What the sets came to.
 #[derive(Default)]
@@ -93,7 +93,9 @@ fn compare_counts(plan: &Repairs, run: &Repairs, open: &[u8]) {
         rounds: 0,
         ..*run
     };
-    assert_eq!(library::plan(run.session, &mut []), none);
+    for plan in [library::plan, raw::plan] {
+        assert_eq!(plan(run.session, &mut []), none);
+    }
 }
 
 /// Runs an object's nodes, the missing ones holding other bytes: the answer is that of the run before, every live

@@ -5,7 +5,7 @@ use compare::library;
 use compare::papers::{Code, every_code};
 use compare::random::Random;
 use compare::samples::{Shape, shapes, some_of};
-use mogtriz::raw::{Session, Started};
+use mogtriz::raw::{self, Session, Started};
 
 const LENGTHS: [usize; 4] = [1, 3, 64, 257];
 
@@ -30,10 +30,12 @@ fn write(session: Session, nodes: &[u8], list: &[u8], held: usize) -> Vec<u8> {
     let length = box_len(held, session.len);
     let mut out = Guarded::filled(length + 17);
     let beyond = out.bytes()[length..].to_vec();
-    let written = library::write(session, nodes, list, out.bytes_mut());
-    assert_eq!(written.refusal, 0, "{session:?} {list:?}");
-    assert_eq!(written.length, length, "{session:?} {list:?}");
-    assert_eq!(written.session, session, "{list:?}");
+    for write in [library::write, raw::write] {
+        let written = write(session, nodes, list, out.bytes_mut());
+        assert_eq!(written.refusal, 0, "{session:?} {list:?}");
+        assert_eq!(written.length, length, "{session:?} {list:?}");
+        assert_eq!(written.session, session, "{list:?}");
+    }
     let unwritten = out.bytes()[length..] == beyond && out.guards_untouched();
     assert!(unwritten, "{session:?} {list:?}: bytes beyond the box");
     out.bytes()[..length].to_vec()
@@ -134,6 +136,8 @@ fn through_a_box(shape: Shape, live: &[u8], object: &[u8]) -> usize {
     let mut out = Guarded::filled(shape.object_len());
     let answer = library::read_out(session, nodes.bytes(), out.bytes_mut());
     assert_eq!(answer.session, session);
+    let from_c = raw::read_out(session, nodes.bytes(), out.bytes_mut());
+    assert_eq!(from_c, answer, "{session:?}");
     if answer.refusal == 0 {
         assert!(out.bytes() == object, "{session:?}: another object");
         assert!(out.guards_untouched(), "{session:?}");

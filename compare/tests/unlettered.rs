@@ -1,16 +1,19 @@
 //! The examples of the papers that have no letter, as they are printed there.
 use compare::library;
-use mogtriz::raw::MARKS;
+use mogtriz::raw::{self, MARKS};
 
 /// Simplex 3, L 1, with nodes 4, 5 and 7.
 const PRINTED: [u8; 14] = [1, 3, 1, 0, 3, 0, 0, 0, 4, 5, 7, 4, 5, 7];
 
 /// The number that a start gives, which the box of no node has to give too.
 fn answer(family: u8, k: u8, len: u16) -> u8 {
-    let started = library::start(family.into(), k.into(), len.into(), &[]);
+    let started = raw::start(family.into(), k.into(), len.into(), &[]);
     let [low, high] = len.to_le_bytes();
-    let checked = library::check(&[family, k, low, high, 0, 0, 0, 0]);
-    assert_eq!(started, checked, "family {family} k {k} L {len}");
+    let bytes = [family, k, low, high, 0, 0, 0, 0];
+    let by_package = library::start(family.into(), k.into(), len.into(), &[]);
+    for other in [by_package, library::check(&bytes), raw::check(&bytes)] {
+        assert_eq!(started, other, "family {family} k {k} L {len}");
+    }
     started.refusal
 }
 

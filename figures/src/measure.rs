@@ -99,9 +99,7 @@ impl Case {
         encode.extend(readings(|| {
             mogtriz::encode(family, k, len, black_box(&object), &mut nodes).is_ok()
         }));
-        plan.extend(readings(|| {
-            black_box(&session).clone().plan(&mut steps).is_ok()
-        }));
+        plan.extend(readings(|| black_box(&session).plan(&mut steps).is_ok()));
         run.extend(readings(|| {
             black_box(&session).clone().run(&mut nodes).is_ok()
         }));

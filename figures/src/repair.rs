@@ -1,7 +1,7 @@
 //! Repairs as the library plans them: a column for each round, and lines from a repaired node to its pair in the column
 //! before, whose nodes were live when the round began.
 use crate::svg::{Anchor, Drawing, Point, Stroke, Type, at};
-use mogtriz::{SIMPLEX, Session, WEIGHT_TWO, column, node_count};
+use mogtriz::{PLAN_ROOM, Repairs, SIMPLEX, Session, Step, WEIGHT_TWO, column, node_count};
 
 struct Case {
     title: &'static str,
@@ -79,26 +79,23 @@ const LIVE: [Look; 4] = [
     },
 ];
 
-/// A plan: its steps as round, node, smaller, larger, and its counts.
+/// A plan: its steps and its counts.
 struct Plan {
     n: usize,
-    steps: Vec<[usize; 4]>,
-    rounds: usize,
-    left: usize,
+    steps: Vec<Step>,
+    repairs: Repairs,
 }
 
 impl Case {
     fn plan(&self) -> Plan {
         let n = node_count(self.family, self.k).expect("a code");
         let session = Session::start(self.family, self.k, 1, self.live).expect("a sound start");
-        let mut bytes = vec![0; 4 * n];
-        let repairs = session.plan(&mut bytes).expect("a sound call");
-        let steps = bytes.chunks_exact(4).take(repairs.steps);
+        let mut out = [0; PLAN_ROOM];
+        let plan = session.plan(&mut out).expect("a sound call");
         Plan {
             n,
-            steps: steps.map(|s| [0, 1, 2, 3].map(|i| s[i].into())).collect(),
-            rounds: repairs.rounds,
-            left: repairs.left,
+            steps: plan.steps().collect(),
+            repairs: plan.repairs,
         }
     }
 
@@ -107,8 +104,8 @@ impl Case {
         if self.live.iter().any(|&live| usize::from(live) == node) {
             return Some(0);
         }
-        let step = plan.steps.iter().find(|step| step[1] == node);
-        step.map(|step| step[0])
+        let step = plan.steps.iter().find(|step| step.node == node);
+        step.map(|step| step.round)
     }
 
     /// The data blocks in a node.
@@ -126,7 +123,7 @@ pub fn draw() -> String {
     for case in &CASES {
         let plan = case.plan();
         panel(&mut drawing, left + LABEL_WIDTH, case, &plan);
-        left += LABEL_WIDTH + ROUND_WIDTH * plan.rounds as f64 + 32.0;
+        left += LABEL_WIDTH + ROUND_WIDTH * plan.repairs.rounds as f64 + 32.0;
     }
     // under the first case, which has the fewest nodes
     legend(&mut drawing, at(24.0, 400.0));
@@ -140,11 +137,11 @@ fn panel(drawing: &mut Drawing, left: f64, case: &Case, plan: &Plan) {
             TOP + NODE_HEIGHT * (node - 1) as f64,
         )
     };
-    let middle = left + ROUND_WIDTH * plan.rounds as f64 / 2.0 - LABEL_WIDTH / 4.0;
+    let middle = left + ROUND_WIDTH * plan.repairs.rounds as f64 / 2.0 - LABEL_WIDTH / 4.0;
     let title = Type::new(15.0, Anchor::Middle).bold();
     drawing.text(at(middle, 28.0), case.title, title);
     let head = Type::new(13.0, Anchor::Middle);
-    for round in 0..=plan.rounds {
+    for round in 0..=plan.repairs.rounds {
         let word = match round {
             0 => "start".to_string(),
             _ => format!("round {round}"),
@@ -157,15 +154,15 @@ fn panel(drawing: &mut Drawing, left: f64, case: &Case, plan: &Plan) {
         let middle = place(0, node);
         drawing.text(at(left - 24.0, middle.y + 4.0), &case.blocks(node), label);
     }
-    for &[round, node, smaller, larger] in &plan.steps {
-        for source in [smaller, larger] {
+    for &Step { round, node, pair } in &plan.steps {
+        for source in pair {
             let (from, to) = (place(round, node), place(round - 1, source));
             drawing.line(from, to, Stroke::new(LIVE[round].edge, 1.5));
         }
     }
     for node in 1..=plan.n {
         let live_from = case.live_from(plan, node);
-        for round in 0..=plan.rounds {
+        for round in 0..=plan.repairs.rounds {
             let look = match live_from {
                 Some(from) if from <= round => LIVE[from],
                 _ => MISSING,
@@ -175,9 +172,7 @@ fn panel(drawing: &mut Drawing, left: f64, case: &Case, plan: &Plan) {
     }
     let counts = format!(
         "{} steps, {} rounds, {} left",
-        plan.steps.len(),
-        plan.rounds,
-        plan.left
+        plan.repairs.steps, plan.repairs.rounds, plan.repairs.left
     );
     let below = place(0, plan.n).y + 36.0;
     drawing.text(at(middle, below), &counts, head);

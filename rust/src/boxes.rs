@@ -1,9 +1,17 @@
 //! Boxes: checked, read, written, and one node's body found in one; and the object read out.
-use crate::{Refusal, Refused, Session, raw};
+use crate::{Refusal, Session, raw};
 
 /// The body of one node, as that part of the box; no copy is made.
 ///
-/// Refused with the checks of [`Session::check`], then 4, and 12 where the node is not in the box.
+/// It takes a box, of which [`Session::check`] says what it is, and a node's number, and gives the node's L bytes.
+///
+/// # Errors
+///
+/// The first of these that is met:
+///
+/// - those of [`Session::check`], in its order
+/// - 4, [`Refusal::NoSuchNode`]
+/// - 12, [`Refusal::NodeMissing`]: the node is not in the box
 ///
 /// ```
 /// let bytes = [1, 3, 2, 0, 2, 0, 0, 0, 4, 7, 0x40, 0x41, 0x70, 0x71];
@@ -13,57 +21,56 @@ use crate::{Refusal, Refused, Session, raw};
 /// ```
 pub fn body(bytes: &[u8], node: usize) -> Result<&[u8], Refusal> {
     let part = raw::body(bytes, node);
-    match Refusal::from_number(part.refusal, 0) {
-        None => Ok(&bytes[part.from..part.from + part.length]),
-        Some(refusal) => Err(refusal),
-    }
-}
-
-/// What writing a box gives.
-///
-/// ```
-/// let session = mogtriz::Session::start(mogtriz::SIMPLEX, 2, 1, &[1, 3])?;
-/// let mogtriz::Written { length, session } = session.write(b"abc", &[], &mut [0; 12])?;
-/// assert_eq!(length, 8 + 2 + 2);
-/// assert!(session.is_live(3));
-/// # Ok::<(), mogtriz::Refused>(())
-/// ```
-#[derive(Clone, Debug, PartialEq, Eq)]
-pub struct Written {
-    /// The box's length in bytes.
-    pub length: usize,
-    /// The session as it was handed in.
-    pub session: Session,
+    Refusal::unless_served(part.refusal)?;
+    Ok(&bytes[part.from..part.from + part.length])
 }
 
 impl Session {
-    /// A box checked alone, which gives its session.
+    /// A box checked alone, which gives its session: the box's family, k and L, and the nodes that it names live.
     ///
     /// A box: byte 0 the family, byte 1 k, bytes 2 and 3 L, low byte first, byte 4 the number E of nodes held, bytes 5 to 7
     /// zero; then E node numbers, a byte each, strictly rising; then their E blocks of L bytes in the same order. Its length
     /// is 8 + E + E × L.
     ///
-    /// Refused with 7 under 8 bytes, 1, 2, 3, 8, 7 where the length is not as the contents say, 9, 4 and 5, in this
-    /// order.
+    /// # Errors
+    ///
+    /// The first of these that is met:
+    ///
+    /// - 7, [`Refusal::BoxLength`]: the box is under 8 bytes
+    /// - 1, [`Refusal::FamilyUnknown`]
+    /// - 2, [`Refusal::KOutOfRange`]
+    /// - 3, [`Refusal::LenOutOfRange`]
+    /// - 8, [`Refusal::NotZero`]
+    /// - 7, [`Refusal::BoxLength`]: the length is not as the contents say
+    /// - 9, [`Refusal::TooManyNodes`]
+    /// - 4, [`Refusal::NoSuchNode`]: anywhere among its node numbers
+    /// - 5, [`Refusal::NotRising`]
     ///
     /// ```
     /// use mogtriz::{Refusal, Session};
     /// let bytes = [1, 3, 1, 0, 3, 0, 0, 0, 4, 5, 7, 4, 5, 7];
     /// let session = Session::check(&bytes)?;
     /// assert_eq!((session.family(), session.k(), session.block_len()), (1, 3, 1));
-    /// assert_eq!(session.live_nodes().collect::<Vec<_>>(), [4, 5, 7]);
+    /// assert!(session.live_nodes().eq([4, 5, 7]));
     ///
-    /// let refused = Session::check(&bytes[..13]).unwrap_err();
-    /// assert_eq!(refused.refusal, Refusal::BoxLength);
-    /// # Ok::<(), mogtriz::Refused>(())
+    /// assert_eq!(Session::check(&bytes[..13]), Err(Refusal::BoxLength));
+    /// # Ok::<(), mogtriz::Refusal>(())
     /// ```
-    pub fn check(bytes: &[u8]) -> Result<Session, Refused> {
-        Session::started(raw::check(bytes))
+    pub fn check(bytes: &[u8]) -> Result<Session, Refusal> {
+        Session::from_answer(&raw::check(bytes))
     }
 
-    /// A box read into a nodes buffer of exactly n × L bytes; places of missing nodes keep their bytes.
+    /// A box read into a nodes buffer of exactly n × L bytes, which gives its session. Each body goes to its node's place;
+    /// places of missing nodes keep their bytes.
     ///
-    /// Refused with the checks of [`check`](Session::check), then 6; nothing is written then.
+    /// How long the buffer has to be is known from [`check`](Session::check) and [`nodes_len`](Session::nodes_len).
+    ///
+    /// # Errors
+    ///
+    /// The first of these that is met; nothing is written then.
+    ///
+    /// - those of [`check`](Session::check), in its order
+    /// - 6, [`Refusal::BufferLength`]: the nodes buffer is not of its length
     ///
     /// ```
     /// let mut nodes = *b".......";
@@ -71,40 +78,57 @@ impl Session {
     /// let session = mogtriz::Session::read(&bytes, &mut nodes)?;
     /// assert_eq!(&nodes, b"...de.f");
     /// assert!(session.is_live(7));
-    /// # Ok::<(), mogtriz::Refused>(())
+    /// # Ok::<(), mogtriz::Refusal>(())
     /// ```
-    pub fn read(bytes: &[u8], nodes: &mut [u8]) -> Result<Session, Refused> {
-        Session::started(raw::read(bytes, nodes))
+    pub fn read(bytes: &[u8], nodes: &mut [u8]) -> Result<Session, Refusal> {
+        Session::from_answer(&raw::read(bytes, nodes))
     }
 
-    /// Writes a box of the listed live nodes, of which an empty list names every one; the destination beyond the box is
-    /// not written. A box of E nodes takes 8 + E + E × L bytes.
+    /// Writes a box and gives its length.
     ///
-    /// Refused with 13, 6 for the nodes, 4, 5, 12, and 6 for the destination, in this order; nothing is written then.
+    /// It takes a nodes buffer of exactly n × L bytes; a list of live nodes, a byte each, strictly rising, of which an empty
+    /// one stands for every live node; and a destination, of which what lies beyond the box is not written. A box of E nodes
+    /// takes 8 + E + E × L bytes ([`box_len`](Session::box_len)).
+    ///
+    /// # Errors
+    ///
+    /// The first of these that is met; nothing is written then.
+    ///
+    /// - 13, [`Refusal::NoSuchSession`]
+    /// - 6, [`Refusal::BufferLength`]: the nodes buffer is not of its length
+    /// - 4, [`Refusal::NoSuchNode`]: anywhere in the list
+    /// - 5, [`Refusal::NotRising`]
+    /// - 12, [`Refusal::NodeMissing`]: a listed node is missing
+    /// - 6, [`Refusal::BufferLength`]: the destination is shorter than the box
     ///
     /// ```
     /// use mogtriz::{Refusal, SIMPLEX, Session};
     /// let session = Session::start(SIMPLEX, 3, 1, &[4, 5, 7])?;
     /// let mut out = [0xaa; 14];
-    /// let written = session.write(b"...de.f", &[4, 7], &mut out)?;
-    /// assert_eq!(out[..written.length], *b"\x01\x03\x01\0\x02\0\0\0\x04\x07df");
-    /// assert_eq!(out[written.length..], [0xaa; 2]);
+    /// let length = session.write(b"...de.f", &[4, 7], &mut out)?;
+    /// assert_eq!(out[..length], *b"\x01\x03\x01\0\x02\0\0\0\x04\x07df");
+    /// assert_eq!(out[length..], [0xaa; 2]);
     ///
-    /// let refused = written.session.write(b"...de.f", &[4, 6], &mut out).unwrap_err();
-    /// assert_eq!(refused.refusal, Refusal::NodeMissing);
-    /// # Ok::<(), mogtriz::Refused>(())
+    /// assert_eq!(session.write(b"...de.f", &[4, 6], &mut out), Err(Refusal::NodeMissing));
+    /// # Ok::<(), mogtriz::Refusal>(())
     /// ```
-    pub fn write(self, nodes: &[u8], list: &[u8], out: &mut [u8]) -> Result<Written, Refused> {
+    pub fn write(&self, nodes: &[u8], list: &[u8], out: &mut [u8]) -> Result<usize, Refusal> {
         let answer = raw::write(self.0, nodes, list, out);
-        Ok(Written {
-            session: Session::unless_refused(answer.session, answer.refusal, 0)?,
-            length: answer.length,
-        })
+        Refusal::unless_served(answer.refusal)?;
+        Ok(answer.length)
     }
 
-    /// The k data blocks, from the nodes that hold one each, into an object buffer of exactly k × L bytes.
+    /// Copies the k data blocks, block 1 first, from the nodes that hold one each, which all have to be live.
     ///
-    /// Refused with 13, 6 and 14, in this order; nothing is written then.
+    /// It takes a nodes buffer of exactly n × L bytes and an object buffer of exactly k × L bytes, all of which is written.
+    ///
+    /// # Errors
+    ///
+    /// The first of these that is met; nothing is written then.
+    ///
+    /// - 13, [`Refusal::NoSuchSession`]
+    /// - 6, [`Refusal::BufferLength`]: the nodes or the object buffer is not of its length
+    /// - 14, [`Refusal::BlockMissing`]: with the lowest data block whose node is missing
     ///
     /// ```
     /// use mogtriz::{Refusal, SIMPLEX, Session};
@@ -114,12 +138,13 @@ impl Session {
     /// assert_eq!(&object, b"abc");
     ///
     /// let session = Session::start(SIMPLEX, 3, 1, &[1, 4])?;
-    /// let refused = session.read_out(b"ab.c...", &mut object).unwrap_err();
-    /// assert_eq!(refused.refusal, Refusal::BlockMissing { block: 2 });
-    /// # Ok::<(), mogtriz::Refused>(())
+    /// let refused = session.read_out(b"ab.c...", &mut object);
+    /// assert_eq!(refused, Err(Refusal::BlockMissing { block: 2 }));
+    /// # Ok::<(), mogtriz::Refusal>(())
     /// ```
-    pub fn read_out(self, nodes: &[u8], object: &mut [u8]) -> Result<Session, Refused> {
+    pub fn read_out(&self, nodes: &[u8], object: &mut [u8]) -> Result<(), Refusal> {
         let answer = raw::read_out(self.0, nodes, object);
-        Session::unless_refused(answer.session, answer.refusal, answer.block)
+        let served = Refusal::unless_served(answer.refusal);
+        served.map_err(|refusal| refusal.with_block(answer.block))
     }
 }

@@ -10,8 +10,7 @@
 //! | 2, [`WEIGHT_TWO`] | weight-two | 2 to 22 | k(k + 1) / 2 |
 //! | 3, [`TETRAHEDRON`] | tetrahedron | 4 | 14 |
 //!
-//! Any number, buffer, box or session may be handed in: a call serves it or turns it away with a [`Refusal`], and then
-//! writes nothing. The library behind is proved to do so; this package is its safe form in Rust.
+//! # From an object to nodes and back
 //!
 //! ```
 //! use mogtriz::{Refusal, SIMPLEX, Session};
@@ -25,23 +24,40 @@
 //! for node in [1, 2, 3, 6] {
 //!     nodes[(node - 1) * 4..node * 4].fill(0);
 //! }
-//! let session = Session::start(SIMPLEX, 3, 4, &[4, 5, 7])?;
+//! let mut session = Session::start(SIMPLEX, 3, 4, &[4, 5, 7])?;
 //! let repairs = session.run(&mut nodes)?;
 //! assert_eq!((repairs.steps, repairs.rounds, repairs.left), (4, 2, 0));
 //!
 //! // the object is read out of the nodes
 //! let mut again = [0; 12];
-//! repairs.session.read_out(&nodes, &mut again)?;
+//! session.read_out(&nodes, &mut again)?;
 //! assert_eq!(again, object);
 //! # Ok::<(), Refusal>(())
 //! ```
-#![deny(unsafe_code)]
-#![warn(missing_docs)]
-// a session goes by value whether a call is served or not
-#![allow(clippy::result_large_err)]
+//!
+//! # Refusals
+//!
+//! Any number, buffer, box or session may be handed in: a call serves it or turns it away with a [`Refusal`], which has a
+//! name and a number. A call that is turned away writes no byte and leaves its session as it was. Each call says under
+//! "Errors" which refusals it gives, in the order of its checks: it gives the first that is met. The library behind is
+//! proved to do so; this package is its safe form in Rust.
+//!
+//! # Sessions
+//!
+//! A [`Session`] says which nodes are live. [`step`](Session::step) and [`run`](Session::run) repair nodes and borrow it
+//! as mutable, to mark them live; [`plan`](Session::plan), [`write`](Session::write) and [`read_out`](Session::read_out)
+//! only look at it.
+//!
+//! # Buffers
+//!
+//! Every call writes to buffers that the caller lends; [`nodes_len`], [`object_len`], [`box_len`] and [`PLAN_ROOM`] say how
+//! long they have to be.
+#![deny(unsafe_code, missing_docs)]
 
 mod boxes;
 mod codes;
+mod lengths;
+mod plan;
 #[allow(unsafe_code, missing_docs)]
 #[doc(hidden)]
 pub mod raw;
@@ -50,11 +66,11 @@ mod repair;
 mod session;
 mod version;
 
-pub use boxes::{Written, body};
-pub use codes::{
-    SIMPLEX, TETRAHEDRON, WEIGHT_TWO, column, encode, node_count, node_of_column, related,
-};
-pub use refusal::{Refusal, Refused};
+pub use boxes::body;
+pub use codes::{SIMPLEX, TETRAHEDRON, WEIGHT_TWO, column, encode, node_of_column, related};
+pub use lengths::{PLAN_ROOM, box_len, node_count, nodes_len, object_len};
+pub use plan::{Plan, Step};
+pub use refusal::Refusal;
 pub use repair::Repairs;
 pub use session::{MARKS, Session};
 pub use version::{VERSION, version};

@@ -1,10 +1,9 @@
 //! Why a call is turned away.
-use crate::Session;
-use std::error::Error;
-use std::fmt;
+use core::error::Error;
+use core::fmt;
 
-/// Why a call is turned away. Each reason has its number; a call gives the first that is met, in the order of its
-/// checks.
+/// Why a call is turned away. Each reason has a name and a number; a call gives the first that is met, in the order of its
+/// checks. Numbers 1 to 10 are due to what is handed in, 11 to 14 to what the session or the box says.
 ///
 /// ```
 /// let refusal = mogtriz::encode(mogtriz::SIMPLEX, 9, 4, &[], &mut []).unwrap_err();
@@ -23,7 +22,7 @@ pub enum Refusal {
     LenOutOfRange,
     /// 4: a node number is 0 or above n.
     NoSuchNode,
-    /// 5: a list does not strictly rise.
+    /// 5: a list of nodes does not strictly rise.
     NotRising,
     /// 6: an object or nodes buffer is not of exact length, or a destination is shorter than needed.
     BufferLength,
@@ -43,7 +42,7 @@ pub enum Refusal {
     NoSuchSession,
     /// 14: a data block's node is missing at read out.
     BlockMissing {
-        /// The lowest such block, from 1.
+        /// The lowest such block, from 1; 0 where it is not known, as of [`from_number`](Refusal::from_number).
         block: usize,
     },
     /// Any other number: the reason of a library that is newer than this package.
@@ -61,6 +60,7 @@ impl Refusal {
     /// assert_eq!(Refusal::FamilyUnknown.number(), 1);
     /// assert_eq!(Refusal::BlockMissing { block: 3 }.number(), 14);
     /// ```
+    #[must_use]
     pub fn number(self) -> u8 {
         match self {
             Refusal::FamilyUnknown => 1,
@@ -81,8 +81,19 @@ impl Refusal {
         }
     }
 
-    /// The reason with this number, or nothing for 0; the block counts for 14 alone.
-    pub(crate) fn from_number(number: u8, block: usize) -> Option<Refusal> {
+    /// The reason with a number, as the lister and the refiller print it and the calls of C give it; `None` for 0, which
+    /// says that a call is served. A number alone does not say which block is missing: 14 gives block 0, which is no
+    /// block's number.
+    ///
+    /// ```
+    /// use mogtriz::Refusal;
+    /// assert_eq!(Refusal::from_number(7), Some(Refusal::BoxLength));
+    /// assert_eq!(Refusal::from_number(14), Some(Refusal::BlockMissing { block: 0 }));
+    /// assert_eq!(Refusal::from_number(15), Some(Refusal::Unnamed { number: 15 }));
+    /// assert_eq!(Refusal::from_number(0), None);
+    /// ```
+    #[must_use]
+    pub fn from_number(number: u8) -> Option<Refusal> {
         let refusal = match number {
             0 => return None,
             1 => Refusal::FamilyUnknown,
@@ -98,10 +109,23 @@ impl Refusal {
             11 => Refusal::AlreadyLive,
             12 => Refusal::NodeMissing,
             13 => Refusal::NoSuchSession,
-            14 => Refusal::BlockMissing { block },
+            14 => Refusal::BlockMissing { block: 0 },
             number => Refusal::Unnamed { number },
         };
         Some(refusal)
+    }
+
+    /// The number of an answer as a result.
+    pub(crate) fn unless_served(number: u8) -> Result<(), Refusal> {
+        Refusal::from_number(number).map_or(Ok(()), Err)
+    }
+
+    /// The block that comes with 14.
+    pub(crate) fn with_block(self, block: usize) -> Refusal {
+        match self {
+            Refusal::BlockMissing { .. } => Refusal::BlockMissing { block },
+            other => other,
+        }
     }
 
     fn reason(self) -> &'static str {
@@ -125,76 +149,15 @@ impl Refusal {
     }
 }
 
-/// The number and a sentence, with 14 the block too.
+/// The number and a sentence, with 14 the block too where it is known.
 impl fmt::Display for Refusal {
     fn fmt(&self, f: &mut fmt::Formatter) -> fmt::Result {
         write!(f, "refused {}: {}", self.number(), self.reason())?;
         match self {
-            Refusal::BlockMissing { block } => write!(f, ", block {block}"),
+            Refusal::BlockMissing { block } if *block > 0 => write!(f, ", block {block}"),
             _ => Ok(()),
         }
     }
 }
 
 impl Error for Refusal {}
-
-/// A refusal, and the session that the call gives back: as it was handed in, or after a start or box that was turned
-/// away a session of zeros.
-///
-/// ```
-/// use mogtriz::{Refusal, Session};
-/// let session = Session::start(mogtriz::SIMPLEX, 3, 1, &[4, 5, 7])?;
-/// let mut nodes = [0, 0, 0, 4, 5, 0, 7];
-/// let refused = session.step(&mut nodes, 6, [1, 7]).unwrap_err();
-/// assert_eq!(refused.refusal, Refusal::NodeMissing);
-/// let session = refused.session.step(&mut nodes, 1, [4, 5])?; // goes on from the session
-/// assert!(session.is_live(1));
-/// # Ok::<(), Refusal>(())
-/// ```
-#[derive(Clone, Debug, PartialEq, Eq)]
-pub struct Refused {
-    /// Why the call was turned away.
-    pub refusal: Refusal,
-    /// The session as it was handed in; after a start or box one of zeros, which every call turns away with 13.
-    pub session: Session,
-}
-
-/// The refusal's text.
-impl fmt::Display for Refused {
-    fn fmt(&self, f: &mut fmt::Formatter) -> fmt::Result {
-        self.refusal.fmt(f)
-    }
-}
-
-impl Error for Refused {}
-
-/// Leaves the session behind, so that `?` serves where only the reason counts.
-impl From<Refused> for Refusal {
-    fn from(refused: Refused) -> Refusal {
-        refused.refusal
-    }
-}
-
-#[cfg(test)]
-mod tests {
-    use super::*;
-    use crate::raw::MOST_REFUSAL;
-
-    #[test]
-    fn every_number_is_a_refusal_with_that_number() {
-        assert_eq!(Refusal::from_number(0, 1), None);
-        for number in 1..=u8::MAX {
-            let refusal = Refusal::from_number(number, 1).expect("a refusal");
-            assert_eq!(refusal.number(), number);
-            let named = !matches!(refusal, Refusal::Unnamed { .. });
-            assert_eq!(named, usize::from(number) <= MOST_REFUSAL, "{refusal}");
-        }
-    }
-
-    #[test]
-    fn a_number_without_a_name_is_told() {
-        let refusal = Refusal::from_number(200, 0).expect("a refusal");
-        let text = "refused 200: a reason that has no name in this package";
-        assert_eq!(refusal.to_string(), text);
-    }
-}

@@ -1,93 +1,127 @@
 //! Repair: single steps, plans and runs.
-use crate::{Refused, Session, raw};
+use crate::{Plan, Refusal, Session, raw};
 
-/// What a plan or a run gives.
+/// The counts of a plan or a run; a run gives the same three as the plan that it carries out.
 ///
 /// ```
-/// let session = mogtriz::Session::start(mogtriz::WEIGHT_TWO, 3, 1, &[4, 6])?;
-/// let repairs = session.plan(&mut [0; 4])?;
-/// assert_eq!((repairs.steps, repairs.rounds, repairs.left), (1, 1, 3));
-/// # Ok::<(), mogtriz::Refused>(())
+/// use mogtriz::{Repairs, Session, WEIGHT_TWO};
+/// let mut session = Session::start(WEIGHT_TWO, 3, 1, &[4, 6])?;
+/// let repairs = session.run(&mut [0, 0, 0, 3, 0, 6])?;
+/// assert_eq!(repairs, Repairs { steps: 1, rounds: 1, left: 3 });
+/// # Ok::<(), mogtriz::Refusal>(())
 /// ```
-#[derive(Clone, Debug, PartialEq, Eq)]
+#[derive(Clone, Copy, Debug, PartialEq, Eq, Hash)]
 pub struct Repairs {
     /// How many nodes are repaired.
     pub steps: usize,
     /// In how many rounds.
     pub rounds: usize,
     /// How many nodes are missing once all steps are made: those at which two objects alike on all live nodes can
-    /// differ.
+    /// differ. They are no refusal.
     pub left: usize,
-    /// The next session: with the repaired nodes live after a run, as it was handed in after a plan.
-    pub session: Session,
 }
 
 impl Session {
-    /// One repair, from a pair of nodes that the caller names: the node's block becomes the XOR of theirs, and it
-    /// becomes live.
+    /// One repair, from a pair of nodes that the caller names.
     ///
-    /// Refused with 13, 6 for the nodes buffer, 4 for any of the three, 10, 11 for the node, and 12 for the pair, in
-    /// this order; nothing is written then.
+    /// It takes a nodes buffer of exactly n × L bytes, the missing node, and two live nodes that are related to it, in
+    /// either order. The node's block becomes the XOR of theirs, and the node becomes live; no other byte is written.
+    ///
+    /// # Errors
+    ///
+    /// The first of these that is met; nothing is written then, and the session stays as it was.
+    ///
+    /// - 13, [`Refusal::NoSuchSession`]
+    /// - 6, [`Refusal::BufferLength`]: the nodes buffer is not of its length
+    /// - 4, [`Refusal::NoSuchNode`]: one of the three is no node
+    /// - 10, [`Refusal::NotRelated`]
+    /// - 11, [`Refusal::AlreadyLive`]
+    /// - 12, [`Refusal::NodeMissing`]: one of the pair is missing
     ///
     /// ```
     /// use mogtriz::{Refusal, SIMPLEX, Session};
     /// let mut nodes = [0, 0, 0, 4, 5, 0, 7];
-    /// let session = Session::start(SIMPLEX, 3, 1, &[4, 5, 7])?;
-    /// let session = session.step(&mut nodes, 1, [4, 5])?;
-    /// assert_eq!(nodes, [1, 0, 0, 4, 5, 0, 7]);
+    /// let mut session = Session::start(SIMPLEX, 3, 1, &[4, 5, 7])?;
+    /// assert_eq!(session.step(&mut nodes, 6, [1, 7]), Err(Refusal::NodeMissing));
     ///
-    /// let refused = session.step(&mut nodes, 2, [4, 7]).unwrap_err();
-    /// assert_eq!(refused.refusal, Refusal::NotRelated);
-    /// # Ok::<(), mogtriz::Refused>(())
+    /// session.step(&mut nodes, 1, [4, 5])?;
+    /// assert_eq!(nodes, [1, 0, 0, 4, 5, 0, 7]);
+    /// assert!(session.is_live(1));
+    /// session.step(&mut nodes, 6, [1, 7])?;
+    /// # Ok::<(), mogtriz::Refusal>(())
     /// ```
-    pub fn step(self, nodes: &mut [u8], node: usize, pair: [usize; 2]) -> Result<Session, Refused> {
+    pub fn step(&mut self, nodes: &mut [u8], node: usize, pair: [usize; 2]) -> Result<(), Refusal> {
         let [first, second] = pair;
         let answer = raw::step(self.0, nodes, [node, first, second]);
-        Session::unless_refused(answer.session, answer.refusal, 0)
+        Refusal::unless_served(answer.refusal)?;
+        self.0 = answer.session;
+        Ok(())
     }
 
     /// The repairs to make, in rounds from 1. In a round every missing node with a related pair, both live when the
-    /// round began, is repaired from the pair whose smaller number is least; it serves from the next round on. Each
-    /// step is written as four bytes: round, node, smaller, larger. There are at most n steps, and the destination
-    /// beyond them is not written.
+    /// round began, is repaired from the pair whose smaller number is least; it serves from the next round on.
     ///
-    /// Refused with 13, then 6 where the destination has under four bytes a step; nothing is written then.
+    /// It takes a destination, for which [`PLAN_ROOM`](crate::PLAN_ROOM) bytes are always enough: each step is written to
+    /// it as four bytes, and what lies beyond the steps is not written. It gives the [`Plan`] in it. Where nodes are left
+    /// the plan is given all the same, and says how many.
+    ///
+    /// # Errors
+    ///
+    /// The first of these that is met; nothing is written then.
+    ///
+    /// - 13, [`Refusal::NoSuchSession`]
+    /// - 6, [`Refusal::BufferLength`]: the destination has under four bytes a step
     ///
     /// ```
-    /// let session = mogtriz::Session::start(mogtriz::SIMPLEX, 3, 1, &[4, 5, 7])?;
-    /// let mut out = [0; 4 * 7];
+    /// use mogtriz::{Refusal, SIMPLEX, Session};
+    /// let session = Session::start(SIMPLEX, 3, 1, &[4, 5, 7])?;
+    /// let mut out = [0; mogtriz::PLAN_ROOM];
     /// let plan = session.plan(&mut out)?;
     /// let steps = [[1, 1, 4, 5], [1, 2, 5, 7], [1, 3, 4, 7], [2, 6, 1, 7]];
-    /// assert_eq!(out[..4 * plan.steps], *steps.as_flattened());
-    /// # Ok::<(), mogtriz::Refused>(())
+    /// assert_eq!(plan.bytes(), steps.as_flattened());
+    ///
+    /// assert_eq!(session.plan(&mut [0; 15]), Err(Refusal::BufferLength));
+    /// # Ok::<(), mogtriz::Refusal>(())
     /// ```
-    pub fn plan(self, out: &mut [u8]) -> Result<Repairs, Refused> {
-        Repairs::from_answer(raw::plan(self.0, out))
+    pub fn plan<'out>(&self, out: &'out mut [u8]) -> Result<Plan<'out>, Refusal> {
+        let repairs = Repairs::of(&raw::plan(self.0, out))?;
+        Ok(Plan::at_start_of(out, repairs))
     }
 
-    /// The plan carried out on the nodes buffer; the next session has the repaired nodes live. Blocks of live nodes and
-    /// places of nodes left keep their bytes. A live block is taken to be what it says: damage to it is not noticed, and
-    /// goes into the blocks repaired from it.
+    /// The plan carried out.
     ///
-    /// Refused with 13, then 6 for the nodes buffer; nothing is written then.
+    /// It takes a nodes buffer of exactly n × L bytes, writes the blocks of the repaired nodes and marks these live. It
+    /// gives the plan's counts. Blocks of live nodes and places of nodes left keep their bytes. A live block is taken to
+    /// be what it says: damage to it is not noticed, and goes into the blocks repaired from it.
+    ///
+    /// # Errors
+    ///
+    /// The first of these that is met; nothing is written then, and the session stays as it was.
+    ///
+    /// - 13, [`Refusal::NoSuchSession`]
+    /// - 6, [`Refusal::BufferLength`]: the nodes buffer is not of its length
     ///
     /// ```
-    /// let session = mogtriz::Session::start(mogtriz::SIMPLEX, 3, 1, &[4, 5, 7])?;
+    /// let mut session = mogtriz::Session::start(mogtriz::SIMPLEX, 3, 1, &[4, 5, 7])?;
     /// let mut nodes = [0, 0, 0, 4, 5, 0, 7];
     /// let repairs = session.run(&mut nodes)?;
     /// assert_eq!(nodes, [1, 2, 3, 4, 5, 6, 7]);
-    /// assert_eq!(repairs.session.missing_nodes().count(), 0);
-    /// # Ok::<(), mogtriz::Refused>(())
+    /// assert_eq!((repairs.steps, repairs.rounds, repairs.left), (4, 2, 0));
+    /// assert_eq!(session.missing_nodes().count(), 0);
+    /// # Ok::<(), mogtriz::Refusal>(())
     /// ```
-    pub fn run(self, nodes: &mut [u8]) -> Result<Repairs, Refused> {
-        Repairs::from_answer(raw::run(self.0, nodes))
+    pub fn run(&mut self, nodes: &mut [u8]) -> Result<Repairs, Refusal> {
+        let answer = raw::run(self.0, nodes);
+        let repairs = Repairs::of(&answer)?;
+        self.0 = answer.session;
+        Ok(repairs)
     }
 }
 
 impl Repairs {
-    fn from_answer(answer: raw::Repairs) -> Result<Repairs, Refused> {
+    fn of(answer: &raw::Repairs) -> Result<Repairs, Refusal> {
+        Refusal::unless_served(answer.refusal)?;
         Ok(Repairs {
-            session: Session::unless_refused(answer.session, answer.refusal, 0)?,
             steps: answer.steps,
             rounds: answer.rounds,
             left: answer.left,

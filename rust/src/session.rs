@@ -1,55 +1,70 @@
 //! The session, and how it starts.
-use crate::refusal::Refused;
 use crate::{Refusal, node_count, raw};
-use std::fmt;
+use core::fmt;
 
 /// How many marks a session holds, by node number; those for 0 and above n are never live.
 ///
 /// ```
 /// let session = mogtriz::Session::start(mogtriz::SIMPLEX, 3, 4, &[1, 2, 4])?;
 /// assert_eq!(session.marks().len(), mogtriz::MARKS);
-/// # Ok::<(), mogtriz::Refused>(())
+/// # Ok::<(), mogtriz::Refusal>(())
 /// ```
 pub const MARKS: usize = raw::MARKS;
 
 /// A family, k, L, and a mark for each node: live or missing.
 ///
-/// A call takes the session and gives the next one back, with a [`Refused`] too. A session is no `Copy`, so that a call
-/// cannot get one from before another call by mistake; a clone is such a session on purpose.
+/// [`start`](Session::start) makes one from a list of live nodes, [`check`](Session::check) and [`read`](Session::read) from
+/// a box. [`step`](Session::step) and [`run`](Session::run) change it where they are served, and leave it where they are
+/// turned away; no other call changes it.
+///
+/// A session is no `Copy`, so that a call cannot work on a copy from before another call by mistake. A clone is such a
+/// copy, made on purpose.
 ///
 /// ```
-/// use mogtriz::{SIMPLEX, Session};
-/// let session = Session::start(SIMPLEX, 3, 1, &[4, 5, 7])?;
+/// use mogtriz::{Refusal, SIMPLEX, Session};
+/// let mut session = Session::start(SIMPLEX, 3, 1, &[4, 5, 7])?;
 /// let mut nodes = [0, 0, 0, 4, 5, 0, 7];
-/// let session = session.step(&mut nodes, 1, [4, 5])?;
-/// let session = session.step(&mut nodes, 6, [1, 7])?;
+/// session.step(&mut nodes, 1, [4, 5])?;
+/// assert_eq!(session.step(&mut nodes, 2, [4, 7]), Err(Refusal::NotRelated));
+/// session.step(&mut nodes, 6, [1, 7])?;
 /// assert_eq!(nodes, [1, 0, 0, 4, 5, 6, 7]);
-/// assert_eq!(session.missing_nodes().collect::<Vec<_>>(), [2, 3]);
-/// # Ok::<(), mogtriz::Refused>(())
+/// assert!(session.missing_nodes().eq([2, 3]));
+/// # Ok::<(), mogtriz::Refusal>(())
 /// ```
 #[derive(Clone, PartialEq, Eq, Hash)]
 pub struct Session(pub(crate) raw::Session);
 
 impl Session {
-    /// A session with the nodes of a list live, a byte a node, strictly rising; an empty list sets none.
+    /// A session in which the nodes of a list are live and all others missing.
     ///
-    /// Refused with 1, 2, 3, 4 over the whole list, and 5, in this order.
+    /// It takes a family, k, L in bytes, and the list, a byte a node, strictly rising; an empty list sets none live.
+    ///
+    /// # Errors
+    ///
+    /// The first of these that is met:
+    ///
+    /// - 1, [`Refusal::FamilyUnknown`]
+    /// - 2, [`Refusal::KOutOfRange`]
+    /// - 3, [`Refusal::LenOutOfRange`]
+    /// - 4, [`Refusal::NoSuchNode`]: anywhere in the list
+    /// - 5, [`Refusal::NotRising`]
     ///
     /// ```
     /// use mogtriz::{Refusal, SIMPLEX, Session};
     /// let session = Session::start(SIMPLEX, 3, 4096, &[1, 2, 7])?;
     /// assert!(session.is_live(7) && !session.is_live(3));
     ///
-    /// let refused = Session::start(SIMPLEX, 3, 4097, &[1, 2, 7]).unwrap_err();
-    /// assert_eq!(refused.refusal, Refusal::LenOutOfRange);
-    /// # Ok::<(), mogtriz::Refused>(())
+    /// assert_eq!(Session::start(SIMPLEX, 3, 4097, &[1, 2, 7]), Err(Refusal::LenOutOfRange));
+    /// # Ok::<(), mogtriz::Refusal>(())
     /// ```
-    pub fn start(family: usize, k: usize, len: usize, list: &[u8]) -> Result<Session, Refused> {
-        Session::started(raw::start(family, k, len, list))
+    pub fn start(family: usize, k: usize, len: usize, list: &[u8]) -> Result<Session, Refusal> {
+        Session::from_answer(&raw::start(family, k, len, list))
     }
 
-    /// A session of any content. What no start gives is turned away by each call with 13: a number out of range, a
-    /// mark for 0 or above n that is live, or a mark that is neither 0, missing, nor 1, live.
+    /// A session of any content, from a family, k, L and the marks by node number, 1 live and 0 missing.
+    ///
+    /// What no start gives is taken here, and turned away with 13, [`Refusal::NoSuchSession`], by each call that it is
+    /// handed to: a number out of range, a mark for 0 or above n that is live, or a mark that is neither 0 nor 1.
     ///
     /// ```
     /// use mogtriz::{MARKS, Refusal, SIMPLEX, Session};
@@ -59,11 +74,11 @@ impl Session {
     /// assert_eq!(session, Session::start(SIMPLEX, 3, 4, &[2])?);
     ///
     /// marks[2] = 2;
-    /// let refused = Session::from_parts(SIMPLEX, 3, 4, marks).plan(&mut []).unwrap_err();
-    /// assert_eq!(refused.refusal, Refusal::NoSuchSession);
-    /// assert_eq!(refused.session.marks()[2], 2); // handed back as it was
-    /// # Ok::<(), mogtriz::Refused>(())
+    /// let session = Session::from_parts(SIMPLEX, 3, 4, marks);
+    /// assert_eq!(session.plan(&mut []), Err(Refusal::NoSuchSession));
+    /// # Ok::<(), mogtriz::Refusal>(())
     /// ```
+    #[must_use]
     pub fn from_parts(family: usize, k: usize, len: usize, marks: [u8; MARKS]) -> Session {
         Session(raw::Session {
             family,
@@ -78,8 +93,9 @@ impl Session {
     /// ```
     /// let session = mogtriz::Session::start(mogtriz::WEIGHT_TWO, 22, 64, &[])?;
     /// assert_eq!(session.family(), mogtriz::WEIGHT_TWO);
-    /// # Ok::<(), mogtriz::Refused>(())
+    /// # Ok::<(), mogtriz::Refusal>(())
     /// ```
+    #[must_use]
     pub fn family(&self) -> usize {
         self.0.family
     }
@@ -89,8 +105,9 @@ impl Session {
     /// ```
     /// let session = mogtriz::Session::start(mogtriz::WEIGHT_TWO, 22, 64, &[])?;
     /// assert_eq!(session.k(), 22);
-    /// # Ok::<(), mogtriz::Refused>(())
+    /// # Ok::<(), mogtriz::Refusal>(())
     /// ```
+    #[must_use]
     pub fn k(&self) -> usize {
         self.0.k
     }
@@ -100,8 +117,9 @@ impl Session {
     /// ```
     /// let session = mogtriz::Session::start(mogtriz::WEIGHT_TWO, 22, 64, &[])?;
     /// assert_eq!(session.block_len(), 64);
-    /// # Ok::<(), mogtriz::Refused>(())
+    /// # Ok::<(), mogtriz::Refusal>(())
     /// ```
+    #[must_use]
     pub fn block_len(&self) -> usize {
         self.0.len
     }
@@ -111,31 +129,35 @@ impl Session {
     /// ```
     /// let session = mogtriz::Session::start(mogtriz::SIMPLEX, 2, 1, &[1, 3])?;
     /// assert_eq!(session.marks()[..4], [0, 1, 0, 1]);
-    /// # Ok::<(), mogtriz::Refused>(())
+    /// # Ok::<(), mogtriz::Refusal>(())
     /// ```
+    #[must_use]
     pub fn marks(&self) -> &[u8; MARKS] {
         &self.0.live
     }
 
-    /// Whether a node is marked live.
+    /// Whether a number is marked live; one above 255 is not.
     ///
     /// ```
     /// let session = mogtriz::Session::start(mogtriz::SIMPLEX, 2, 1, &[1, 3])?;
     /// assert!(session.is_live(3) && !session.is_live(2) && !session.is_live(1000));
-    /// # Ok::<(), mogtriz::Refused>(())
+    /// # Ok::<(), mogtriz::Refusal>(())
     /// ```
+    #[must_use]
     pub fn is_live(&self, node: usize) -> bool {
         self.0.live.get(node) == Some(&1)
     }
 
-    /// The numbers that are marked live, rising; they are a list for [`start`](Session::start).
+    /// The numbers that are marked live, rising; they are a list for [`start`](Session::start) and
+    /// [`write`](Session::write).
     ///
     /// ```
     /// let session = mogtriz::Session::start(mogtriz::SIMPLEX, 3, 1, &[4, 5, 7])?;
     /// assert_eq!(session.live_nodes().collect::<Vec<_>>(), [4, 5, 7]);
-    /// # Ok::<(), mogtriz::Refused>(())
+    /// # Ok::<(), mogtriz::Refusal>(())
     /// ```
-    pub fn live_nodes(&self) -> impl Iterator<Item = u8> {
+    #[must_use]
+    pub fn live_nodes(&self) -> impl DoubleEndedIterator<Item = u8> + Clone {
         (0..=255).filter(|&node| self.is_live(usize::from(node)))
     }
 
@@ -144,30 +166,19 @@ impl Session {
     /// ```
     /// let session = mogtriz::Session::start(mogtriz::SIMPLEX, 3, 1, &[4, 5, 7])?;
     /// assert_eq!(session.missing_nodes().collect::<Vec<_>>(), [1, 2, 3, 6]);
-    /// # Ok::<(), mogtriz::Refused>(())
+    /// # Ok::<(), mogtriz::Refusal>(())
     /// ```
-    pub fn missing_nodes(&self) -> impl Iterator<Item = u8> {
+    #[must_use]
+    pub fn missing_nodes(&self) -> impl DoubleEndedIterator<Item = u8> + Clone {
         let n = node_count(self.0.family, self.0.k).unwrap_or(0);
-        let nodes = (1..=255).take(n);
-        nodes.filter(|&node| !self.is_live(usize::from(node)))
+        let is_node = move |node: usize| (1..=n).contains(&node);
+        (0..=255).filter(move |&node| is_node(node.into()) && !self.is_live(node.into()))
     }
 
     /// The session, unless there is a refusal beside it.
-    pub(crate) fn started(answer: raw::Started) -> Result<Session, Refused> {
-        Session::unless_refused(answer.session, answer.refusal, 0)
-    }
-
-    /// The session, unless the number, with its block, is that of a refusal.
-    pub(crate) fn unless_refused(
-        session: raw::Session,
-        number: u8,
-        block: usize,
-    ) -> Result<Session, Refused> {
-        let session = Session(session);
-        match Refusal::from_number(number, block) {
-            None => Ok(session),
-            Some(refusal) => Err(Refused { refusal, session }),
-        }
+    pub(crate) fn from_answer(answer: &raw::Started) -> Result<Session, Refusal> {
+        Refusal::unless_served(answer.refusal)?;
+        Ok(Session(answer.session))
     }
 }
 
