@@ -1,7 +1,7 @@
 //! Repairs as the library plans them: a column for each round, and lines from a repaired node to its pair in the column
 //! before, whose nodes were live when the round began.
 use crate::svg::{Anchor, Drawing, Point, Stroke, Type, at};
-use mogtriz::{PLAN_ROOM, Repairs, SIMPLEX, Session, Step, WEIGHT_TWO, column, node_count};
+use mogtriz::{Repairs, SIMPLEX, Session, Step, WEIGHT_TWO, column, node_count};
 
 struct Case {
     title: &'static str,
@@ -90,13 +90,8 @@ impl Case {
     fn plan(&self) -> Plan {
         let n = node_count(self.family, self.k).expect("a code");
         let session = Session::start(self.family, self.k, 1, self.live).expect("a sound start");
-        let mut out = [0; PLAN_ROOM];
-        let plan = session.plan(&mut out).expect("a sound call");
-        Plan {
-            n,
-            steps: plan.steps().collect(),
-            repairs: plan.repairs,
-        }
+        let (repairs, steps) = session.plan_to_vec().expect("a sound call");
+        Plan { n, steps, repairs }
     }
 
     /// The round from which a node is live, 0 being the start; none where it is left.

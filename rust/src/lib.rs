@@ -13,12 +13,13 @@
 //! # From an object to nodes and back
 //!
 //! ```
+//! # #[cfg(feature = "alloc")] {
 //! use mogtriz::{Refusal, SIMPLEX, Session};
 //!
 //! // an object of 3 blocks of 4 bytes becomes 7 nodes
 //! let object = *b"dialect tape";
-//! let mut nodes = [0; 7 * 4];
-//! mogtriz::encode(SIMPLEX, 3, 4, &object, &mut nodes)?;
+//! let mut nodes = mogtriz::encode_to_vec(SIMPLEX, 3, 4, &object)?;
+//! assert_eq!(nodes.len(), 7 * 4);
 //!
 //! // nodes 1, 2, 3 and 6 are lost, and repaired from the others
 //! for node in [1, 2, 3, 6] {
@@ -29,10 +30,9 @@
 //! assert_eq!((repairs.steps, repairs.rounds, repairs.left), (4, 2, 0));
 //!
 //! // the object is read out of the nodes
-//! let mut again = [0; 12];
-//! session.read_out(&nodes, &mut again)?;
-//! assert_eq!(again, object);
-//! # Ok::<(), Refusal>(())
+//! assert_eq!(session.read_out_to_vec(&nodes)?, object);
+//! # }
+//! # Ok::<(), mogtriz::Refusal>(())
 //! ```
 //!
 //! # Refusals
@@ -48,11 +48,17 @@
 //! as mutable, to mark them live; [`plan`](Session::plan), [`write`](Session::write) and [`read_out`](Session::read_out)
 //! only look at it.
 //!
-//! # Buffers
+//! # Buffers and features
 //!
 //! Every call writes to buffers that the caller lends; [`nodes_len`], [`object_len`], [`box_len`] and [`PLAN_ROOM`] say how
-//! long they have to be.
+//! long they have to be. With the feature `alloc`, which is on unless `default-features = false` is said, each such call
+//! has a form that gives a `Vec` instead, by the name with `_to_vec` at its end. Without it the package needs neither the
+//! standard library nor an allocator.
+#![no_std]
 #![deny(unsafe_code, missing_docs)]
+
+#[cfg(feature = "alloc")]
+extern crate alloc;
 
 mod boxes;
 mod codes;
@@ -64,6 +70,8 @@ pub mod raw;
 mod refusal;
 mod repair;
 mod session;
+#[cfg(feature = "alloc")]
+mod vecs;
 mod version;
 
 pub use boxes::body;
@@ -73,4 +81,6 @@ pub use plan::{Plan, Step};
 pub use refusal::Refusal;
 pub use repair::Repairs;
 pub use session::{MARKS, Session};
+#[cfg(feature = "alloc")]
+pub use vecs::encode_to_vec;
 pub use version::{VERSION, version};

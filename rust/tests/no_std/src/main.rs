@@ -1,0 +1,52 @@
+//! The package where there is no standard library and no allocator. It would not be linked if the package took either: two
+//! panic handlers are one too many, and with `alloc` an allocator has to be named. Its exit status is 0, or the number of
+//! the refusal that it met.
+#![no_std]
+#![no_main]
+
+use core::ffi::c_int;
+use core::panic::PanicInfo;
+use mogtriz::{PLAN_ROOM, Refusal, SIMPLEX, Session};
+
+const OBJECT: &[u8; 24] = b"vowels of one disc, 1952";
+
+// what the library needs of C, and what starts the program
+#[link(name = "c")]
+unsafe extern "C" {
+    safe fn abort() -> !;
+}
+
+#[panic_handler]
+fn panic(_: &PanicInfo) -> ! {
+    abort()
+}
+
+// `core` comes compiled for programs that unwind, and names this; nothing here unwinds
+#[unsafe(no_mangle)]
+extern "C" fn rust_eh_personality() {}
+
+#[unsafe(no_mangle)]
+extern "C" fn main() -> c_int {
+    store_and_repair().map_or_else(|refusal| refusal.number().into(), |()| 0)
+}
+
+fn store_and_repair() -> Result<(), Refusal> {
+    let mut nodes = [0; 7 * 8];
+    mogtriz::encode(SIMPLEX, 3, 8, OBJECT, &mut nodes)?;
+    let mut bytes = [0; 8 + 3 + 3 * 8];
+    let session = Session::start(SIMPLEX, 3, 8, &[4, 5, 7])?;
+    let length = session.write(&nodes, &[], &mut bytes)?;
+    assert!(length == session.box_len(3)?);
+
+    nodes.fill(0);
+    let mut session = Session::read(&bytes, &mut nodes)?;
+    let mut out = [0; PLAN_ROOM];
+    let plan = session.plan(&mut out)?;
+    assert!(plan.steps().map(|step| step.node).eq([1, 2, 3, 6]));
+    assert!(session.run(&mut nodes)? == plan.repairs);
+
+    let mut object = [0; 24];
+    session.read_out(&nodes, &mut object)?;
+    assert!(object == *OBJECT);
+    Ok(())
+}

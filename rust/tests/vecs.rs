@@ -1,0 +1,111 @@
+//! The calls that give a `Vec` give what the calls with lent buffers do, refusals too.
+#![cfg(feature = "alloc")]
+use mogtriz::{
+    MARKS, PLAN_ROOM, Refusal, SIMPLEX, Session, TETRAHEDRON, WEIGHT_TWO, encode, encode_to_vec,
+};
+
+const CODES: [(usize, usize, usize); 4] = [
+    (SIMPLEX, 3, 8),
+    (SIMPLEX, 8, 1),
+    (WEIGHT_TWO, 22, 5),
+    (TETRAHEDRON, 4, 4096),
+];
+
+fn bytes(count: usize) -> Vec<u8> {
+    (0..=250).cycle().take(count).collect()
+}
+
+/// Sessions of a code: none live, every third node, all.
+fn sessions((family, k, len): (usize, usize, usize)) -> Vec<Session> {
+    let n = mogtriz::node_count(family, k).expect("a code");
+    let all: Vec<u8> = (1..=255).take(n).collect();
+    let third: Vec<u8> = all.iter().copied().step_by(3).collect();
+    [vec![], third, all]
+        .iter()
+        .map(|live| Session::start(family, k, len, live).expect("a sound start"))
+        .collect()
+}
+
+fn of_no_start() -> Session {
+    Session::from_parts(SIMPLEX, 3, usize::MAX, [1; MARKS])
+}
+
+#[test]
+fn nodes_are_encoded_alike() -> Result<(), Refusal> {
+    for (family, k, len) in CODES {
+        let object = bytes(k * len);
+        let mut nodes = vec![0; mogtriz::nodes_len(family, k, len)?];
+        encode(family, k, len, &object, &mut nodes)?;
+        assert_eq!(encode_to_vec(family, k, len, &object)?, nodes);
+        let refused = encode_to_vec(family, k, len, &object[1..]);
+        assert_eq!(refused, Err(Refusal::BufferLength));
+    }
+    for (family, k, len) in [(0, 9, 0), (SIMPLEX, 9, 0), (SIMPLEX, 8, usize::MAX)] {
+        let wanted = encode(family, k, len, &[], &mut []).unwrap_err();
+        assert_eq!(encode_to_vec(family, k, len, &[]), Err(wanted));
+    }
+    Ok(())
+}
+
+#[test]
+fn boxes_are_written_and_read_alike() -> Result<(), Refusal> {
+    for session in CODES.into_iter().flat_map(sessions) {
+        let nodes = bytes(session.nodes_len()?);
+        let mut out = vec![0; session.box_len(session.node_count()?)?];
+        let live: Vec<u8> = session.live_nodes().collect();
+        for list in [&[][..], &live, &live[..live.len() / 2]] {
+            let length = session.write(&nodes, list, &mut out)?;
+            let written = session.write_to_vec(&nodes, list)?;
+            assert_eq!(written, out[..length]);
+
+            let mut again = vec![0; nodes.len()];
+            let read = Session::read(&written, &mut again)?;
+            assert_eq!(Session::read_to_vec(&written)?, (read, again));
+        }
+    }
+    Ok(())
+}
+
+#[test]
+fn boxes_are_refused_alike() {
+    for session in CODES.into_iter().flat_map(sessions).chain([of_no_start()]) {
+        let nodes = bytes(session.nodes_len().unwrap_or(0));
+        let mut out = vec![0; 8 + 255 * 4097];
+        let long = [1; 300];
+        for nodes in [&nodes[..], &[0; 2]] {
+            for list in [&[][..], &[0], &[255], &[2, 1], &[1, 2], &long, &[0; 300]] {
+                let length = session.write(nodes, list, &mut out);
+                let wanted = length.map(|length| out[..length].to_vec());
+                let written = session.write_to_vec(nodes, list);
+                assert_eq!(written, wanted, "{session:?} {list:?}");
+            }
+        }
+    }
+    for bytes in [&[][..], &[4; 8], &[1, 3, 1, 0, 1, 0, 0, 0, 8, 0]] {
+        let wanted = Session::check(bytes).unwrap_err();
+        assert_eq!(Session::read_to_vec(bytes), Err(wanted));
+    }
+}
+
+#[test]
+fn objects_are_read_out_alike() {
+    for session in CODES.into_iter().flat_map(sessions).chain([of_no_start()]) {
+        let nodes = bytes(session.nodes_len().unwrap_or(0));
+        let mut object = vec![0; session.object_len().unwrap_or(0)];
+        for nodes in [&nodes[..], &[0; 2]] {
+            let read_out = session.read_out(nodes, &mut object);
+            let wanted = read_out.map(|()| object.clone());
+            assert_eq!(session.read_out_to_vec(nodes), wanted, "{session:?}");
+        }
+    }
+}
+
+#[test]
+fn repairs_are_planned_alike() {
+    for session in CODES.into_iter().flat_map(sessions).chain([of_no_start()]) {
+        let mut out = [0; PLAN_ROOM];
+        let plan = session.plan(&mut out);
+        let wanted = plan.map(|plan| (plan.repairs, plan.steps().collect()));
+        assert_eq!(session.plan_to_vec(), wanted, "{session:?}");
+    }
+}
