@@ -1,32 +1,17 @@
-//! The example of examples/repair.c in Rust; both print the same lines.
+//! The example of examples/repair.c in Rust; both print the same lines. An object is stored as a box that keeps three of its
+//! seven nodes, and the others are planned, repaired and read out.
 use mogtriz::{Refusal, SIMPLEX, Session, Step};
 
 const K: usize = 3;
-const N: usize = 7;
 const LEN: usize = 8;
 
 fn main() -> Result<(), Refusal> {
-    let object = *b"vowels of one disc, 1952";
-    let mut nodes = [0; N * LEN];
-    mogtriz::encode(SIMPLEX, K, LEN, &object, &mut nodes)?;
-    println!("encoded {} bytes into {N} nodes", object.len());
+    let object = b"vowels of one disc, 1952";
+    let bytes = store(object)?;
 
-    // a box keeps nodes 4, 5 and 7; the others are lost
-    let session = Session::start(SIMPLEX, K, LEN, &[4, 5, 7])?;
-    let mut bytes = [0; 8 + N + N * LEN];
-    let length = session.write(&nodes, &[], &mut bytes)?;
-    println!("wrote a box of {length} bytes");
-
-    nodes.fill(0);
-    let mut session = Session::read(&bytes[..length], &mut nodes)?;
+    let (mut session, mut nodes) = Session::read_to_vec(&bytes)?;
     println!("read a box of {} nodes", session.live_nodes().count());
-
-    let mut steps = [0; 4 * N];
-    let plan = session.plan(&mut steps)?;
-    for Step { round, node, pair } in plan.steps() {
-        let [smaller, larger] = pair;
-        println!("round {round}: node {node} from {smaller} and {larger}");
-    }
+    print_plan(&session)?;
 
     let run = session.run(&mut nodes)?;
     println!(
@@ -34,15 +19,45 @@ fn main() -> Result<(), Refusal> {
         run.steps, run.rounds, run.left
     );
 
-    let mut again = [0; K * LEN];
-    session.read_out(&nodes, &mut again)?;
-    println!("read out: {}", String::from_utf8_lossy(&again));
-    assert_eq!(again, object);
+    match session.read_out_to_vec(&nodes) {
+        Ok(again) => {
+            println!("read out: {}", String::from_utf8_lossy(&again));
+            assert_eq!(again, object);
+        }
+        // where more nodes are lost than can be repaired
+        Err(Refusal::BlockMissing { block }) => println!("data block {block} is lost"),
+        Err(refusal) => return Err(refusal),
+    }
 
-    let refused = session.step(&mut nodes, 6, [1, 7]).unwrap_err();
-    println!(
-        "a step to node 6, which is live: refused {}",
-        refused.number()
-    );
+    match session.step(&mut nodes, 6, [1, 7]) {
+        Err(refusal @ Refusal::AlreadyLive) => {
+            println!(
+                "a step to node 6, which is live: refused {}",
+                refusal.number()
+            );
+            Ok(())
+        }
+        other => other,
+    }
+}
+
+/// The box of nodes 4, 5 and 7 of an object; the other nodes are lost.
+fn store(object: &[u8]) -> Result<Vec<u8>, Refusal> {
+    let nodes = mogtriz::encode_to_vec(SIMPLEX, K, LEN, object)?;
+    let n = nodes.len() / LEN;
+    println!("encoded {} bytes into {n} nodes", object.len());
+
+    let kept = Session::start(SIMPLEX, K, LEN, &[4, 5, 7])?;
+    let bytes = kept.write_to_vec(&nodes, &[])?;
+    println!("wrote a box of {} bytes", bytes.len());
+    Ok(bytes)
+}
+
+fn print_plan(session: &Session) -> Result<(), Refusal> {
+    let (_, steps) = session.plan_to_vec()?;
+    for Step { round, node, pair } in steps {
+        let [smaller, larger] = pair;
+        println!("round {round}: node {node} from {smaller} and {larger}");
+    }
     Ok(())
 }
