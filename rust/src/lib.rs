@@ -50,10 +50,10 @@
 //!
 //! # Buffers and features
 //!
-//! Every call writes to buffers that the caller lends; [`nodes_len`], [`object_len`], [`box_len`] and [`PLAN_ROOM`] say how
-//! long they have to be. With the feature `alloc`, which is on unless `default-features = false` is said, each such call
-//! has a form that gives a `Vec` instead, by the name with `_to_vec` at its end. Without it the package needs neither the
-//! standard library nor an allocator.
+//! Calls write to buffers that the caller lends; [`nodes_len`], [`object_len`], [`box_len`] and [`PLAN_ROOM`] say how long they
+//! have to be. With the feature `alloc`, which is on unless `default-features = false` is said, encode, read, write, read out
+//! and plan have a second form that gives a `Vec` instead, by the name with `_to_vec` at its end. Without it the package needs
+//! neither the standard library nor an allocator.
 #![no_std]
 #![deny(unsafe_code, missing_docs)]
 
