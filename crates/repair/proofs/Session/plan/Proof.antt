@@ -6,17 +6,44 @@ use Prim.Native.Nat.{_*_}
 use native.Mathlib.Nat.{sub-zero}
 use native.Mathlib.Omega.{arith}
 use borrow.Author.Needs.{needs}
+use lib.ListN.{length}
 use Rattle.repair.specs.Session.{noStart}
+use Rattle.repair.specs.Repairs.{planIn}
 use Rattle.repair.proofs.RepairsLaws.{plan-13, plan-6, plan-made, made-steps, made-answer, made-bytes}
 use Rattle.repair.proofs.Session.plan.Statement.{statement}
 use Rattle.repair.proofs.Session.plan.Tie as tie
 
-starts : (c : tie.Else1) → noStart (c .before .before .before .args .self) ≡ false
+-- ---- places: each from those after it
+
+abbrev start : tie.After-has-no-start → tie.Start
+start c = c .before .before
+
+-- where 13 is passed, and where the plan is drawn up
+abbrev passed : tie.After-draw-up → tie.Else1
+passed c = c .before .before .before
+
+abbrev short : tie.After-no-repairs2 → tie.After-draw-up
+short c = c .before .before .before .before
+
+abbrev copied : tie.After-counted → tie.After-copy-block
+copied c = c .before .before .before
+
+abbrev enough : tie.After-copy-block → tie.After-draw-up
+enough c = c .before .before .before .before .before .before .before
+
+-- ---- what is known there
+
+starts : (c : tie.Else1) → noStart (start (c .before) .args .self) ≡ false
 starts c = sym (c .before .has-no-start .ensures) ∙ c .if1 .left
+
+steps-are : (c : tie.After-draw-up) → c .draw-up .result .steps ≡ length (planIn (start (passed c .before) .args .self))
+steps-are c = made-steps (start (passed c .before) .args .self) (c .draw-up .result) (c .draw-up .ensures .0 .0)
 
 returns : tie.Need-returns
 returns c =
-    let r = plan-13 (c .before .before .before .before .args .self) (c .before .before .before .before .args .out .now) (sym (c .before .before .has-no-start .ensures) ∙ c .before .if1 .taken) in
+    let e = c .before .before in
+    let g = start e .args in
+    let r = plan-13 (g .self) (g .out .now) (sym (e .has-no-start .ensures) ∙ c .before .if1 .taken) in
     (c .no-repairs .ensures ∙ r .answer-is, r .buffer-is)
 
 draw-up-requires : tie.Need-draw-up-requires
@@ -24,18 +51,20 @@ draw-up-requires c κs = (starts (c .before .before), search needs)
 
 returns-2 : tie.Need-returns-2
 returns-2 c =
-    let m = made-steps (c .before .before .before .before .before .before .before .before .before .before .args .self) (c .before .before .before .before .draw-up .result) (c .before .before .before .before .draw-up .ensures .0 .0) in
-    let r = plan-6 (c .before .before .before .before .before .before .before .before .before .before .args .self) (c .before .before .before .before .before .before .before .before .before .before .args .out .now) (starts (c .before .before .before .before .before .before .before)) (omega (arith, m)) in
+    let d = short c in
+    let g = start (passed d .before) .args in
+    let r = plan-6 (g .self) (g .out .now) (starts (passed d)) (omega (arith, steps-are d)) in
     (c .no-repairs2 .ensures ∙ r .answer-is, r .buffer-is)
 
 returns-3 : tie.Need-returns-3
 returns-3 c =
-    let s = c .before .before .before .before .before .before .before .before .before .before .before .before .before .before .before .before .args .self in
-    let d = c .before .before .before .before .before .before .before .before .before .before .draw-up in
-    let m = made-steps s (d .result) (d .ensures .0 .0) in
-    let r = plan-made s (c .before .before .before .before .before .before .before .before .before .before .before .before .before .before .before .before .args .out .now) (starts (c .before .before .before .before .before .before .before .before .before .before .before .before .before)) (omega (arith, m)) in (
-      c .counted .ensures ∙ made-answer s (d .result) (d .ensures .0 .0) s ∙ r .answer-is,
-      rw (c .before .before .before .copy-block .ensures, sub-zero (4 * d .result .steps), made-bytes s (d .result) (d .ensures .0 .0) _ _ (d .ensures .1), m) (r .buffer-is),
+    let p = enough (copied c) in
+    let d = p .draw-up in
+    let g = start (passed p .before) .args in
+    let m = steps-are p in
+    let r = plan-made (g .self) (g .out .now) (starts (passed p)) (omega (arith, m)) in (
+      c .counted .ensures ∙ made-answer (g .self) (d .result) (d .ensures .0 .0) (g .self) ∙ r .answer-is,
+      rw (copied c .copy-block .ensures, sub-zero (4 * d .result .steps), made-bytes (g .self) (d .result) (d .ensures .0 .0) _ _ (d .ensures .1)) (rw (← m) at (r .buffer-is)),
     )
 
 pub plan-spec : {M : Type 1} → statement M

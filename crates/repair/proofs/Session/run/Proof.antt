@@ -14,41 +14,64 @@ use Rattle.repair.proofs.RepairsLaws.{run-refused, run-made, made-ran, 
 use Rattle.repair.proofs.Session.run.Statement.{statement}
 use Rattle.repair.proofs.Session.run.Tie as tie
 
-passed : (c : tie.Else1) → firstMet (runChecks (c .before .before .before .args .self) (c .before .before .before .args .nodes .now)) ≡ 0
+-- ---- places: each from those after it
+
+abbrev start : tie.After-nodes-refusal → tie.Start
+start c = c .before .before
+
+-- where 13 and 6 are passed, where the plan is drawn up, and where it is carried out
+abbrev passed-of : tie.After-draw-up → tie.Else1
+passed-of c = c .before .before .before
+
+abbrev drawn-of : tie.After-carry-out-arg → tie.After-draw-up
+drawn-of c = c .before .before .before
+
+abbrev carried-of : tie.After-counted → tie.After-carry-out
+carried-of c = c .before .before .before .before
+
+-- ---- what is known there
+
+passed : (c : tie.Else1) → let g = start (c .before) .args in firstMet (runChecks (g .self) (g .nodes .now)) ≡ 0
 unfolding runChecks
 passed c = sym (c .before .nodes-refusal .ensures) ∙ c .if1 .left
 
-buffer : (c : tie.Else1) → Sized (c .before .before .before .args .self) (length (c .before .before .before .args .nodes .now))
+buffer : (c : tie.Else1) → let g = start (c .before) .args in Sized (g .self) (length (g .nodes .now))
 unfolding runChecks
 buffer c = sized _ _ (passed c)
 
 returns : tie.Need-returns
 unfolding runChecks
 returns c =
-    let r = run-refused (c .before .before .before .before .args .self) (c .before .before .before .before .args .nodes .now) (c .before .before .nodes-refusal .result) (c .before .before .nodes-refusal .ensures) (c .before .if1 .taken) in
+    let e = c .before .before in
+    let g = start e .args in
+    let r = run-refused (g .self) (g .nodes .now) (e .nodes-refusal .result) (e .nodes-refusal .ensures) (c .before .if1 .taken) in
     (c .no-repairs .ensures ∙ r .answer-is, r .buffer-is)
 
 draw-up-requires : tie.Need-draw-up-requires
 draw-up-requires c κs = (buffer (c .before .before) .starts, search needs)
 
+marks : (c : tie.After-nodes-refusal) → length (start c .args .self .live) ≡ 256
+marks c = search needs
+
 carry-out-requires : tie.Need-carry-out-requires
 carry-out-requires c κs =
-    let s = c .before .before .before .before .before .before .before .before .before .args .self in
-    let d = c .before .before .before .draw-up in
-    let b = buffer (c .before .before .before .before .before .before) in
-    let size : length (s .live) ≡ 256 = search needs in
-    let room : length (c .before .before .before .before .before .plan-room .result) ≡ 1020 = search needs in (
+    let p = drawn-of c in
+    let d = p .draw-up in
+    let g = start (passed-of p .before) .args in
+    let b = buffer (passed-of p) in
+    let room : length (p .before .before .plan-room .result) ≡ 1020 = search needs in (
       omega (arith, d .ensures .0 .1, d .kept .1 .0, room),
-      made-in s (d .result) (d .ensures .0 .0) _ _ (d .ensures .1) (known s (b .starts) .range .blocks) size (c .before .before .before .before .before .before .before .before .before .args .nodes .now) (b .size),
+      made-in (g .self) (d .result) (d .ensures .0 .0) _ _ (d .ensures .1) (known (g .self) (b .starts) .range .blocks) (marks (passed-of p .before)) (g .nodes .now) (b .size),
     )
 
 returns-2 : tie.Need-returns-2
 returns-2 c =
-    let s = c .before .before .before .before .before .before .before .before .before .before .before .before .before .before .args .self in
-    let d = c .before .before .before .before .before .before .before .before .draw-up in
-    let r = run-made s (c .before .before .before .before .before .before .before .before .before .before .before .before .before .before .args .nodes .now) (passed (c .before .before .before .before .before .before .before .before .before .before .before)) in (
-      c .counted .ensures ∙ made-ran s (d .result) (d .ensures .0 .0) ∙ r .answer-is,
-      c .before .before .before .before .carry-out .ensures ∙ ap (λ (steps : List Step). nodesMade (s .len) (c .before .before .before .before .before .before .before .before .before .before .before .before .before .before .args .nodes .now) steps) (made-back s (d .result) (d .ensures .0 .0) _ _ (d .ensures .1)) ∙ r .buffer-is,
+    let p = drawn-of (carried-of c .before) in
+    let d = p .draw-up in
+    let g = start (passed-of p .before) .args in
+    let r = run-made (g .self) (g .nodes .now) (passed (passed-of p)) in (
+      c .counted .ensures ∙ made-ran (g .self) (d .result) (d .ensures .0 .0) ∙ r .answer-is,
+      carried-of c .carry-out .ensures ∙ ap (λ (steps : List Step). nodesMade (g .self .len) (g .nodes .now) steps) (made-back (g .self) (d .result) (d .ensures .0 .0) _ _ (d .ensures .1)) ∙ r .buffer-is,
     )
 
 pub run-spec : {M : Type 1} → statement M

@@ -9,8 +9,20 @@ use Rattle.repair.proofs.StepLaws.{AcceptedStep, step-refused, step-mad
 use Rattle.repair.proofs.Session.step.Statement.{statement}
 use Rattle.repair.proofs.Session.step.Tie as tie
 
+-- ---- places: each from those after it
+
+-- where the checks are passed, and where the block is mended
+abbrev start : tie.After-step-refusal → tie.Start
+start c = c .before .before .before
+
+abbrev passed : tie.After-xor-block → tie.Else1
+passed c = c .before .before
+
+abbrev mended : tie.After-slice-known2 → tie.After-xor-block
+mended c = c .before .before
+
 -- the step as one of a plan's would be
-is-accepted : (c : tie.Else1) → let g = c .before .before .before .before .args in AcceptedStep (g .t1) (g .nodes .now) (record { round = 0; node = g .node; smaller = g .first; larger = g .second })
+is-accepted : (c : tie.Else1) → let g = start (c .before) .args in AcceptedStep (g .t1) (g .nodes .now) (record { round = 0; node = g .node; smaller = g .first; larger = g .second })
 is-accepted c = accepted-step _ _ _ (sym (c .before .step-refusal .ensures) ∙ c .if1 .left)
 
 returns : tie.Need-returns
@@ -25,15 +37,17 @@ xor-block-requires c κs =
 
 element-write-self : tie.Need-element-write-self
 element-write-self c =
-    let a = is-accepted (c .before .before .before .before) in
+    let a = is-accepted (passed (mended c)) in
     omega (arith, a .makes .node .last, few _ _ (step-range _ _ _ a))
 
 returns-2 : tie.Need-returns-2
 unfolding setLive
 returns-2 c =
-    let g = c .before .before .before .before .before .before .before .before .args in
-    let r = step-made (g .t1) (g .nodes .now) (g .node) (g .first) (g .second) (sym (c .before .before .before .before .before .step-refusal .ensures) ∙ c .before .before .before .before .if1 .left) in
-    (r .answer-is, c .before .before .xor-block .ensures ∙ r .buffer-is)
+    let m = mended c in
+    let e = passed m in
+    let g = start (e .before) .args in
+    let r = step-made (g .t1) (g .nodes .now) (g .node) (g .first) (g .second) (sym (e .before .step-refusal .ensures) ∙ e .if1 .left) in
+    (r .answer-is, m .xor-block .ensures ∙ r .buffer-is)
 
 pub step-spec : {M : Type 1} → statement M
 step-spec =
