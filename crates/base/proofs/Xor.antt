@@ -54,7 +54,3 @@ xor-third a b c h = sym (xor-cancel (bitXor a b) c) ∙ ap (bitXor (bitXor a b))
 
 pub xor-third-of : (a b c : ℕ) → c ≡ bitXor a b → bitXor (bitXor a b) c ≡ 0
 xor-third-of a b c h = ap (bitXor (bitXor a b)) h ∙ xor-self (bitXor a b)
-
--- two numbers whose XOR is 0 are equal
-pub xor-zero-eq : (a b : ℕ) → bitXor a b ≡ 0 → a ≡ b
-xor-zero-eq a b h = sym (xor-cancel b a ∙ refl) ∙ ap (bitXor b) (xor-comm b a ∙ h) ∙ xor-zero-r b

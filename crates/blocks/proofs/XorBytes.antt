@@ -1,6 +1,6 @@
 -- The bytewise XOR of blocks: like the XOR of numbers, byte by byte.
 -- Assumes nothing.
-use mathlib.Core.Path.{_≡_, refl, sym, ap, ap₂, _∙_}
+use mathlib.Core.Path.{_≡_, refl, sym, ap, ap₂}
 use mathlib.Core.List.{List, [], _∷_}
 use Prim.Native.Nat.{ℕ, zero, suc, _<_}
 use native.Mathlib.Nat.{le-of-suc-le-suc, not-suc-le-zero}
@@ -46,10 +46,3 @@ pub xorBytes-zeros : (a : List ℕ) → xorBytes a (replicate (length a) 0) ≡ 
 unfolding xorBytes
 xorBytes-zeros [] = refl
 xorBytes-zeros (x ∷ xs) = ap₂ _∷_ (xor-zero-r x) (xorBytes-zeros xs)
-
-pub zeros-xorBytes : (a : List ℕ) → xorBytes (replicate (length a) 0) a ≡ a
-zeros-xorBytes a = xorBytes-comm (replicate (length a) 0) a ∙ xorBytes-zeros a
-
--- the two in the middle change places
-pub xorBytes-middle : (a b c d : List ℕ) → xorBytes (xorBytes a b) (xorBytes c d) ≡ xorBytes (xorBytes a c) (xorBytes b d)
-xorBytes-middle a b c d = simp xorBytes-assoc (ap (xorBytes a) (sym (xorBytes-assoc b c d) ∙ rw (xorBytes-comm b c) (xorBytes-assoc c b d)))

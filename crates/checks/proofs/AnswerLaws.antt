@@ -62,6 +62,15 @@ module _ {A : Type 0} (checks : List Check) (served : A) (refused : ℕ → A) w
 
 -- ---- a call with a lent buffer
 
+-- what holds of the service and what it leaves, and of every refusal and what was there, holds of the two together
+pub call-either : {A : Type 0} (checks : List Check) (served : A) (refused : ℕ → A) (left before : List ℕ) (P : A → List ℕ → Type 0)
+    → P served left → ((number : ℕ) → P (refused number) before) → P (answer checks served refused) (afterwards checks left before)
+call-either checks served refused left before P s r = go (eqb (firstMet checks) 0)
+  where
+    go : (b : Bool) → P (cond b served (refused (firstMet checks))) (cond b left before)
+    go true = s
+    go false = r (firstMet checks)
+
 -- what was given and what the buffer holds are the call's answer and what it leaves
 pub record Gives {A : Type 0} (answers : A) (leaves : List ℕ) (given : A) (after : List ℕ) : Type 0 where
   pub answer-is : given ≡ answers

@@ -109,9 +109,6 @@ module _ (k L : ℕ) (object : List ℕ) (h : length object ≡ k * L) where
   node-bytes : (column : ℕ) → Bytes L (nodeBlock k L object column) (λ p. xorOver k (hasBlock column) (λ i. getD object (i * L + p) 0))
   node-bytes column = first-bytes column k (le-refl k)
 
-  pub length-dataBlock : (i : ℕ) → i < k → length (dataBlock L object i) ≡ L
-  length-dataBlock i l = data-bytes i l .size
-
   pub length-nodeBlock : (column : ℕ) → length (nodeBlock k L object column) ≡ L
   length-nodeBlock column = node-bytes column .size
 

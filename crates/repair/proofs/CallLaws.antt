@@ -6,22 +6,24 @@ use mathlib.Core.Bool.{Bool, true, false, cond}
 use mathlib.Core.List.{List, [], _∷_, _++_, append-nil}
 use Prim.Native.Nat.{ℕ, _<_}
 use native.Mathlib.Omega.{arith}
-use borrow.Author.Tests.{eqb-true, eqb-false}
+use borrow.Author.Tests.{eqb-true}
 use lib.Dec.{eqb}
 use lib.ListN.{length, getD}
 use Rattle.families.specs.Families.{familyOf, KInRange, IsNode, nodeCount}
 use Rattle.checks.specs.Checks.{firstMet}
+use Rattle.checks.proofs.AnswerLaws.{answer-served, call-either}
 use Rattle.lists.specs.Lists.{noneLive, setLive}
 use Rattle.lists.proofs.Laws.{outside-none}
 use Rattle.lists.proofs.MarkLaws.{live-append}
-use Rattle.planning.specs.Plan.{Step, repairedNodes, marksAfter, nodesLeft}
+use Rattle.planning.specs.Plan.{Step, repairedNodes}
 use Rattle.repair.specs.declared.Session.{Session}
 use Rattle.repair.specs.declared.Stepped.{Stepped}
 use Rattle.repair.specs.declared.Repairs.{Repairs}
-use Rattle.repair.specs.Session.{sessionWith, sessionOf, startChecks, started, nodeCountOf}
-use Rattle.repair.specs.Step.{stepChecks, withLive, stepped}
-use Rattle.repair.specs.Repairs.{planIn, repairsOf, refusedRepairs, planChecks, planned, runChecks, ran}
+use Rattle.repair.specs.Session.{sessionWith, sessionOf, startChecks, started}
+use Rattle.repair.specs.Step.{refusedStep, stepChecks, withLive, stepped}
+use Rattle.repair.specs.Repairs.{leftIn, planIn, repairsOf, refusedRepairs, planChecks, planned, runChecks, ran}
 use Rattle.repair.specs.Calls.{Move, step, run, Call, sessionAfter, sessionAfterAll, addedBy, liveAfter}
+use Rattle.repair.proofs.Accepted.{plan-accepted, run-accepted}
 use Rattle.repair.proofs.StartLaws.{accepted-start}
 use Rattle.repair.proofs.StepLaws.{accepted-step}
 use Rattle.repair.proofs.LeftOverLaws.{AllReached, Grown, grown-marked, grown-more, steps-reach, plan-reach}
@@ -45,22 +47,13 @@ from-start family k L list e =
 
 -- ---- an accepted plan or run
 
-left-of : (s next : Session) (r : ℕ) → cond (eqb r 0) (repairsOf s next) (refusedRepairs s r) .refusal ≡ 0
-    → cond (eqb r 0) (repairsOf s next) (refusedRepairs s r) .left ≡ nodesLeft (marksAfter (s .live) (planIn s)) (nodeCountOf s)
-left-of s next r h = go (eqb r 0) refl h
-  where
-    go : (b : Bool) → eqb r 0 ≡ b → cond b (repairsOf s next) (refusedRepairs s r) .refusal ≡ 0
-        → cond b (repairsOf s next) (refusedRepairs s r) .left ≡ nodesLeft (marksAfter (s .live) (planIn s)) (nodeCountOf s)
-    go true e h = refl
-    go false e h = absurd (eqb-false r 0 e h)
-
-pub ran-left : (s : Session) (nodes : List ℕ) → ran s nodes .refusal ≡ 0 → ran s nodes .left ≡ nodesLeft (marksAfter (s .live) (planIn s)) (nodeCountOf s)
+pub ran-left : (s : Session) (nodes : List ℕ) → ran s nodes .refusal ≡ 0 → ran s nodes .left ≡ leftIn s
 unfolding ran
-ran-left s nodes h = left-of s (withLive s (repairedNodes (planIn s))) (firstMet (runChecks s nodes)) h
+ran-left s nodes h = ap (λ (r : Repairs). r .left) (answer-served (runChecks s nodes) (repairsOf s _) (refusedRepairs s) (run-accepted s nodes h))
 
-pub planned-left : (s : Session) (out : List ℕ) → planned s out .refusal ≡ 0 → planned s out .left ≡ nodesLeft (marksAfter (s .live) (planIn s)) (nodeCountOf s)
+pub planned-left : (s : Session) (out : List ℕ) → planned s out .refusal ≡ 0 → planned s out .left ≡ leftIn s
 unfolding planned
-planned-left s out h = left-of s s (firstMet (planChecks s out)) h
+planned-left s out h = ap (λ (r : Repairs). r .left) (answer-served (planChecks s out) (repairsOf s s) (refusedRepairs s) (plan-accepted s out h))
 
 module _ (family k L : ℕ) where
   -- ---- the session that a call gives back
@@ -71,23 +64,18 @@ module _ (family k L : ℕ) where
   added-session : (now added : List ℕ) → withLive (from now) added ≡ from (now ++ added)
   added-session now added = ap (sessionWith family k L) (sym (live-append noneLive now added))
 
-  -- from an accepted call, and from one that is turned away
-  either-session : {R : Type 0} (get : R → Session) (done kept : R) (now added : List ℕ) → get done ≡ withLive (from now) added → get kept ≡ from now
-      → (b : Bool) → get (cond b done kept) ≡ from (now ++ cond b added [])
-  either-session get done kept now added y n true = y ∙ added-session now added
-  either-session get done kept now added y n false = n ∙ ap from (sym (append-nil now))
+  -- from a call that is turned away
+  none-added : (now : List ℕ) → from now ≡ from (now ++ [])
+  none-added now = ap from (sym (append-nil now))
 
   call-session : (now nodes : List ℕ) (move : Move) → sessionAfter (from now) nodes move ≡ from (now ++ addedBy (from now) nodes move)
   unfolding stepped ran
   call-session now nodes (step j a b) =
-      either-session (λ (r : Stepped). r .session) (record { refusal = 0; session = withLive (from now) (j ∷ []) })
-      (record { refusal = firstMet (stepChecks (from now) nodes j a b); session = from now }) now (j ∷ []) refl refl
-      (eqb (firstMet (stepChecks (from now) nodes j a b)) 0)
+      call-either (stepChecks (from now) nodes j a b) _ (refusedStep (from now)) (j ∷ []) []
+      (λ (r : Stepped) (added : List ℕ). r .session ≡ from (now ++ added)) (added-session now (j ∷ [])) (λ n. none-added now)
   call-session now nodes run =
-      let adds : List ℕ = repairedNodes (planIn (from now)) in
-      either-session (λ (r : Repairs). r .session) (repairsOf (from now) (withLive (from now) adds))
-      (refusedRepairs (from now) (firstMet (runChecks (from now) nodes))) now adds refl refl
-      (eqb (firstMet (runChecks (from now) nodes)) 0)
+      call-either (runChecks (from now) nodes) _ (refusedRepairs (from now)) (repairedNodes (planIn (from now))) []
+      (λ (r : Repairs) (added : List ℕ). r .session ≡ from (now ++ added)) (added-session now (repairedNodes (planIn (from now)))) (λ n. none-added now)
 
   pub calls-session : (calls : List Call) (now : List ℕ) → sessionAfterAll (from now) calls ≡ from (liveAfter family k L now calls)
   unfolding sessionAfterAll liveAfter

@@ -1,7 +1,7 @@
 -- A session and a nodes buffer that go together: which calls give such a pair, and which they are accepted by.
 -- Assumes nothing.
 use mathlib.Core.Path.{_≡_, refl, ap, _∙_}
-use mathlib.Core.Bool.{Bool, true, false, cond, not}
+use mathlib.Core.Bool.{Bool, true, false, not}
 use mathlib.Core.List.{List, []}
 use Prim.Native.Nat.{ℕ, _*_, _≤_}
 use native.Mathlib.Nat.{mul-le-mul-right}
@@ -13,6 +13,7 @@ use Rattle.families.specs.Families.{familyOf, nodeCount}
 use Rattle.families.proofs.Laws.{few}
 use Rattle.checks.specs.Checks.{firstMet}
 use Rattle.checks.proofs.Laws.{none-zero, none-append, parameters-in}
+use Rattle.checks.proofs.AnswerLaws.{answer-either}
 use Rattle.lists.specs.Lists.{someOutside, rises, noneLive, setLive, someMissing, liveNodes}
 use Rattle.lists.proofs.Laws.{length-setLive, list-outside-none, live-nodes-few}
 use Rattle.boxes.specs.Box.{blockLengthIn, namesIn, nodeCountIn, boxLength, boxChecks}
@@ -24,7 +25,7 @@ use Rattle.repair.specs.declared.Stepped.{Stepped}
 use Rattle.repair.specs.declared.Repairs.{Repairs}
 use Rattle.repair.specs.Session.{sessionOf, startChecks, started, nodeCountOf, nodesChecks}
 use Rattle.repair.specs.Boxed.{sessionIn, checkedBox, readChecks, readBox, nodesRead, writeChecks, written}
-use Rattle.repair.specs.Step.{stepChecks, stepped, nodesStepped}
+use Rattle.repair.specs.Step.{refusedStep, stepChecks, stepped, nodesStepped}
 use Rattle.repair.specs.Repairs.{planIn, refusedRepairs, runChecks, ran, nodesRan}
 use Rattle.repair.specs.Calls.{Move, step, run, sessionAfter, nodesAfter}
 use Rattle.repair.specs.WholeWay.{Fits, SameCode}
@@ -104,21 +105,15 @@ module _ (s : Session) (nodes : List ℕ) where
   fits-call f run = fits-ran f
 
   -- family, k and L stay, whatever is asked for
-  same-either : {R : Type 0} (get : R → Session) (done refused : R) → SameCode s (get done) → SameCode s (get refused) → (b : Bool) → SameCode s (get (cond b done refused))
-  same-either get done refused y n true = y
-  same-either get done refused y n false = n
-
   itself : SameCode s s
   itself = record { family = refl; k = refl; len = refl }
 
   pub same-code : (move : Move) → SameCode s (sessionAfter s nodes move)
   unfolding stepped ran
   same-code (step j a b) =
-      same-either (λ (r : Stepped). r .session) _ (record { refusal = firstMet (stepChecks s nodes j a b); session = s })
-      (record { family = refl; k = refl; len = refl }) itself (eqb (firstMet (stepChecks s nodes j a b)) 0)
+      answer-either (stepChecks s nodes j a b) _ (refusedStep s) (λ (r : Stepped). SameCode s (r .session)) (record { family = refl; k = refl; len = refl }) (λ n. itself)
   same-code run =
-      same-either (λ (r : Repairs). r .session) _ (refusedRepairs s (firstMet (runChecks s nodes)))
-      (record { family = refl; k = refl; len = refl }) itself (eqb (firstMet (runChecks s nodes)) 0)
+      answer-either (runChecks s nodes) _ (refusedRepairs s) (λ (r : Repairs). SameCode s (r .session)) (record { family = refl; k = refl; len = refl }) (λ n. itself)
 
 -- ---- every live node written
 
