@@ -35,7 +35,7 @@ use Rattle.repair.proofs.StartLaws.{nodes-0}
 use Rattle.repair.proofs.RepairsLaws.{plan-made, run-made}
 use Rattle.listing.specs.Text.{digitCount, decimal, field, firstLine, stepLine, stepLines, lastLine, refusalLine}
 use Rattle.listing.specs.Listing.{answerOf, listingIn, listingOf}
-use Rattle.examples.specs.Examples.{Row, Encodes, Plans, BoxPlans, BoxSteps, BoxReads, BoxHolds, BoxLacks, BoxRewrites, Lists, Starts, BoxGives, BoxWrites, Holds, HasPlan, StepGives, Reads, Rewrites, Every, accepted, othersFrom, allBut, table, Examples}
+use Rattle.examples.specs.Examples.{Row, Encodes, Plans, BoxPlans, BoxSteps, BoxReads, BoxHolds, BoxLacks, BoxRewrites, Lists, Starts, BoxGives, BoxWrites, Holds, HasPlan, StepGives, Reads, Rewrites, Every, accepted, allBut, table, Examples}
 
 -- ---- a plan
 
@@ -147,7 +147,7 @@ _&_ : {A B : Type 0} → A → B → A × B
 a & b = (a, b)
 
 computed : Every Computed table
-unfolding started refusalLine encodeChecks parameterChecks firstMet nodesBuffer nodeBlocks nodeBlock dataBlock columnOf nodeCount xorBytes startChecks checkedBox boxChecks someOutside rises setLive noStart liveOutside someFrom planOf roundsFrom stepsFrom isRepaired smallerNode largerNode firstFrom areRelated smallerAt largerAt stepBytes lastRound nodesLeft countFrom thoseFrom someMissing stepsIn othersFrom placeIn listFrom readBox nodesRead readChecks withBodies withBlock blockOf bodyChecks bodyOf writeChecks nodesChecks written outWritten boxOf bodiesOf stepChecks stepped nodesStepped listingOf answerOf listingIn firstLine stepLines stepLine lastLine field decimal digitCount
+unfolding started refusalLine encodeChecks parameterChecks firstMet nodesBuffer nodeBlocks nodeBlock dataBlock columnOf nodeCount xorBytes startChecks checkedBox boxChecks someOutside rises setLive noStart liveOutside someFrom planOf roundsFrom stepsFrom isRepaired smallerNode largerNode firstFrom areRelated smallerAt largerAt stepBytes lastRound nodesLeft countFrom thoseFrom someMissing stepsIn placeIn listFrom readBox nodesRead readChecks withBodies withBlock blockOf bodyChecks bodyOf writeChecks nodesChecks written outWritten boxOf bodiesOf stepChecks stepped nodesStepped listingOf answerOf listingIn firstLine stepLines stepLine lastLine field decimal digitCount
 computed =
     (refl, refl)
     & (refl, refl, (refl, refl, refl, refl))

@@ -1,10 +1,11 @@
 -- The lettered examples of document 01 and the box that it shows, rows of one table under one statement.
 use mathlib.Core.Path.{_≡_}
-use mathlib.Core.Bool.{cond}
+use mathlib.Core.Bool.{not}
 use mathlib.Core.List.{List, [], _∷_, _++_}
-use Prim.Native.Nat.{ℕ, zero, suc, _-_, _*_, _/_, _≤_}
+use Prim.Native.Nat.{ℕ, _-_, _*_, _/_, _≤_}
 use Prim.Native.String.{String}
 use lib.ListN.{length, getD, drop}
+use Rattle.base.specs.Ranges.{thoseFrom}
 use Rattle.lists.specs.Lists.{isIn}
 use Rattle.checks.specs.Checks.{firstMet}
 use Rattle.checks.specs.Parameters.{mostL}
@@ -53,14 +54,9 @@ pub data Row : Type 0 where
 abbrev pub accepted : Session → Started
 accepted s = record { refusal = 0; session = s }
 
--- those of the numbers j, j + 1, .., of which there are m, that are not in a list
-unfoldable pub othersFrom : List ℕ → ℕ → ℕ → List ℕ
-othersFrom list j zero = []
-othersFrom list j (suc m) = let later = othersFrom list (suc j) m in cond (isIn list j) later (j ∷ later)
-
 -- the session with every node live but those of a list
 abbrev pub allBut : List ℕ → Session → Session
-allBut list s = sessionOf (s .family) (s .k) (s .len) (othersFrom list 1 (nodeCountOf s))
+allBut list s = sessionOf (s .family) (s .k) (s .len) (thoseFrom (λ j. not (isIn list j)) 1 (nodeCountOf s))
 
 -- the plan of a session has these steps and rounds, and leaves these nodes
 pub record HasPlan (s : Session) (steps : List ℕ) (rounds : ℕ) (left : List ℕ) : Type 0 where

@@ -20,9 +20,11 @@ family-claims f k r =
       forth = λ c h. node-of f k r c (some c h) .has;
       none-at-0 = zero-none f k r;
       none-above = λ c h. above-none f k c r h;
-      first-two = λ a b c na nb nc h e. related-differ f k r a b c nc h e;
-      last-two = λ a b c na nb nc h e. related-differ f k r b c a na (related-turn f k a b c h) e;
-      outer-two = λ a b c na nb nc h e. related-differ f k r c a b nb (related-turn f k b c a (related-turn f k a b c h)) (sym e);
+      differ = λ a b c na nb nc h. (
+        (λ e. related-differ f k r a b c nc h e),
+        (λ e. related-differ f k r b c a na (related-turn f k a b c h) e),
+        (λ e. related-differ f k r c a b nb (related-turn f k b c a (related-turn f k a b c h)) (sym e)),
+      );
       few = few f k r;
     }
   where

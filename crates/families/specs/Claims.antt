@@ -21,9 +21,7 @@ pub record FamilyClaims (f : Family) (k : ℕ) : Type 0 where
   pub none-at-0 : nodeOf f k 0 ≡ 0
   pub none-above : (c : ℕ) → 2 ^ k ≤ c → nodeOf f k c ≡ 0
   -- three related nodes differ
-  pub first-two : (a b c : ℕ) → IsNode f k a → IsNode f k b → IsNode f k c → areRelated f k a b c ≡ true → a ≡ b → ⊥
-  pub last-two : (a b c : ℕ) → IsNode f k a → IsNode f k b → IsNode f k c → areRelated f k a b c ≡ true → b ≡ c → ⊥
-  pub outer-two : (a b c : ℕ) → IsNode f k a → IsNode f k b → IsNode f k c → areRelated f k a b c ≡ true → a ≡ c → ⊥
+  pub differ : (a b c : ℕ) → IsNode f k a → IsNode f k b → IsNode f k c → areRelated f k a b c ≡ true → (a ≡ b → ⊥) × (b ≡ c → ⊥) × (a ≡ c → ⊥)
   -- there are at most 255 nodes
   pub few : nodeCount f k ≤ 255
 
