@@ -10,38 +10,43 @@ use Rattle.planning.proofs.PairLaws.{partner, partner-at, third-few, li
 use Rattle.planning.proofs.search.live_partner.Statement.{statement}
 use Rattle.planning.proofs.search.live_partner.Tie as tie
 
+-- An earlier place of the code is found by its type, with `search`; only a statement counts the places in between.
 element-copy-out-third-node : tie.Need-element-copy-out-third-node
 element-copy-out-third-node c = omega (arith, c .pre .0 .1 .last, few _ _ (c .pre .0 .0))
 
 element-copy-out-third-node-2 : tie.Need-element-copy-out-third-node-2
-element-copy-out-third-node-2 c = omega (arith, c .before .pre .0 .2 .last, few _ _ (c .before .pre .0 .0))
+element-copy-out-third-node-2 c = let e : tie.Start = search in omega (arith, e .pre .0 .2 .last, few _ _ (e .pre .0 .0))
 
 third-node-requires : tie.Need-third-node-requires
 third-node-requires c κs =
-    let p = c .before .before .pre in (
+    let e : tie.Start = search in
+    let p = e .pre in (
       p .0 .0,
       rw (p .1, table-at _ _ _ (p .0 .0) (p .0 .1)) (column _ _ _ (p .0 .0) (p .0 .1) .below),
       rw (p .1, table-at _ _ _ (p .0 .0) (p .0 .2)) (column _ _ _ (p .0 .0) (p .0 .2) .below),
     )
 
 -- b is the partner
-is-partner : (c : tie.After-third-node) → c .third-node .result ≡ partner (c .before .before .before .args .family) (c .before .before .before .args .k) (c .before .before .before .pre .0 .0) (now (c .before .before .before .args .marks)) (c .before .before .before .args .j) (c .before .before .before .args .a)
+is-partner : (c : tie.After-third-node) → let e = c .before .before .before in let g = e .args in c .third-node .result ≡ partner (g .family) (g .k) (e .pre .0 .0) (now (g .marks)) (g .j) (g .a)
 is-partner c =
-    let p = c .before .before .before .pre in
-    partner-at _ _ (p .0 .0) (now (c .before .before .before .args .marks)) _ _ (p .0 .1) (p .0 .2) (p .1) (c .third-node .ensures)
+    let e : tie.Start = search in
+    let p = e .pre in
+    partner-at _ _ (p .0 .0) (now (e .args .marks)) _ _ (p .0 .1) (p .0 .2) (p .1) (c .third-node .ensures)
 
 element-copy-out-if1 : tie.Need-element-copy-out-if1
-element-copy-out-if1 c = let p = c .before .before .before .pre in omega (arith, is-partner c, third-few _ _ (p .0 .0) (c .before .before .before .args .j) (c .before .before .before .args .a))
+element-copy-out-if1 c = let e : tie.Start = search in omega (arith, is-partner c, third-few _ _ (e .pre .0 .0) (e .args .j) (e .args .a))
 
 returns : tie.Need-returns
 returns c =
-    let g = c .before .before .before .before .before .args in
-    live-none (g .family) (g .k) (c .before .before .before .before .before .pre .0 .0) (now (g .marks)) (g .j) (g .a) (is-partner (c .before .before)) (not-true _ (c .if1 .taken))
+    let e : tie.Start = search in
+    let g = e .args in
+    live-none (g .family) (g .k) (e .pre .0 .0) (now (g .marks)) (g .j) (g .a) (is-partner (search)) (not-true _ (c .if1 .taken))
 
 returns-2 : tie.Need-returns-2
 returns-2 c =
-    let g = c .before .before .before .before .before .args in
-    live-is (g .family) (g .k) (c .before .before .before .before .before .pre .0 .0) (now (g .marks)) (g .j) (g .a) (is-partner (c .before .before)) (not-false _ (c .if1 .left))
+    let e : tie.Start = search in
+    let g = e .args in
+    live-is (g .family) (g .k) (e .pre .0 .0) (now (g .marks)) (g .j) (g .a) (is-partner (search)) (not-false _ (c .if1 .left))
 
 pub live-partner-spec : {M : Type 1} → statement M
 live-partner-spec =

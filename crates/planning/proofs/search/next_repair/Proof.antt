@@ -24,49 +24,70 @@ Inv-walk family k columns live marks worth after n node₀ node = Walking family
 abbrev μ-walk : tie.MeasureT-walk
 μ-walk family k columns live marks worth after n node₀ node = n - node
 
-node-count-requires : tie.Need-node-count-requires Inv-search μ-search Inv-walk μ-walk
-node-count-requires c κs = c .before .pre .0 .range
+-- A place of the code. An earlier place is found by its type, with `search`; only a statement counts the places in between.
+abbrev Place : (tie.InvT-search → tie.MeasureT-search → tie.InvT-walk → tie.MeasureT-walk → Type 0) → Type 0
+Place P = P Inv-search μ-search Inv-walk μ-walk
 
 walk-holds : tie.Need-walk-holds Inv-search μ-search Inv-walk μ-walk
-walk-holds c = walk-none (c .before .before .pre .0) (c .before .before .pre .1 .1)
+walk-holds c = let e : Place tie.Start = search in walk-none (e .pre .0) (e .pre .1 .1)
 
 -- the next node is a node
-below : (c : tie.In-walk Inv-search μ-search Inv-walk μ-walk) → c .before .walk .node < nodeCount (c .before .before .before .before .args .family) (c .before .before .before .before .args .k)
-below c = omega (arith, c .before .before .node-count .ensures)
+below : (c : Place tie.In-walk) → let w = c .before in let g = w .before .before .before .args in w .walk .node < nodeCount (g .family) (g .k)
+below c = let n : Place tie.After-node-count = search in omega (arith, n .node-count .ensures)
 
 element-copy-out-if1 : tie.Need-element-copy-out-if1 Inv-search μ-search Inv-walk μ-walk
-element-copy-out-if1 c = omega (arith, below c, few _ _ (c .before .walk .inv .begins .range))
+element-copy-out-if1 c = let w : Place tie.At-walk = search in omega (arith, below c, few _ _ (w .walk .inv .begins .range))
 
 walk-again : tie.Need-walk-again Inv-search μ-search Inv-walk μ-walk
-walk-again c = walk-live (c .before .before .before .walk .inv) (below (c .before .before)) (c .if1 .taken)
+walk-again c = let w : Place tie.At-walk = search in walk-live (w .walk .inv) (below (search)) (c .if1 .taken)
 
 walk-again-2 : tie.Need-walk-again-2 Inv-search μ-search Inv-walk μ-walk
-walk-again-2 c = walk-skip (c .before .before .before .before .before .walk .inv) (below (c .before .before .before .before)) (c .before .before .before .before .before .before .before .before .pre .1 .0) (not-true _ (c .if2 .taken))
+walk-again-2 c =
+    let e : Place tie.Start = search in
+    let w : Place tie.At-walk = search in
+    walk-skip (w .walk .inv) (below (search)) (e .pre .1 .0) (not-true _ (c .if2 .taken))
 
 search-holds : tie.Need-search-holds Inv-search μ-search Inv-walk μ-walk
-search-holds c = search-none (c .before .before .before .before .before .walk .inv) (below (c .before .before .before .before)) (c .before .before .if1 .left)
+search-holds c =
+    let w : Place tie.At-walk = search in
+    let m : Place tie.Else1 = search in
+    search-none (w .walk .inv) (below (search)) (m .if1 .left)
 
 walk-again-3 : tie.Need-walk-again-3 Inv-search μ-search Inv-walk μ-walk
-walk-again-3 c = walk-over (c .before .before .before .before .before .before .before .walk .inv) (below (c .before .before .before .before .before .before)) (c .before .search .inv) (omega arith)
+walk-again-3 c =
+    let w : Place tie.At-walk = search in
+    let s : Place tie.At-search = search in
+    walk-over (w .walk .inv) (below (search)) (s .search .inv) (omega arith)
 
 live-partner-requires : tie.Need-live-partner-requires Inv-search μ-search Inv-walk μ-walk
 live-partner-requires c κs =
-    let w = c .before .before .before .before .before .before .before .before .before .walk .inv in
-    let l = below (c .before .before .before .before .before .before .before .before) in
-    ((w .begins .range, walk-node w l, rw (c .wide .ensures) (search-node w l (c .before .before .before .search .inv) (omega arith))), w .begins .table)
+    let w : Place tie.At-walk = search in
+    let s : Place tie.At-search = search in
+    let b = w .walk .inv .begins in
+    let l = below (search) in
+    ((b .range, walk-node (w .walk .inv) l, rw (c .wide .ensures) (search-node (w .walk .inv) l (s .search .inv) (omega arith))), b .table)
 
 search-again : tie.Need-search-again Inv-search μ-search Inv-walk μ-walk
 search-again c =
-    let w = c .before .before .before .before .before .before .before .before .before .before .before .walk .inv in
-    search-more w (below (c .before .before .before .before .before .before .before .before .before .before)) (c .before .before .before .before .before .search .inv) (omega arith) (c .before .before .wide .ensures) (c .before .live-partner .ensures) (omega arith)
+    let w : Place tie.At-walk = search in
+    let s : Place tie.At-search = search in
+    let a : Place tie.After-wide = search in
+    let b : Place tie.After-live-partner = search in
+    search-more (w .walk .inv) (below (search)) (s .search .inv) (omega arith) (a .wide .ensures) (b .live-partner .ensures) (omega arith)
 
 returns : tie.Need-returns Inv-search μ-search Inv-walk μ-walk
 returns c =
-    let w = c .before .before .before .before .before .before .before .before .before .before .before .walk .inv in
-    search-found w (below (c .before .before .before .before .before .before .before .before .before .before)) (c .before .before .before .before .before .search .inv) (omega arith) (c .before .before .wide .ensures) (c .before .live-partner .ensures) (c .if3 .taken)
+    let w : Place tie.At-walk = search in
+    let s : Place tie.At-search = search in
+    let a : Place tie.After-wide = search in
+    let b : Place tie.After-live-partner = search in
+    search-found (w .walk .inv) (below (search)) (s .search .inv) (omega arith) (a .wide .ensures) (b .live-partner .ensures) (c .if3 .taken)
 
 returns-2 : tie.Need-returns-2 Inv-search μ-search Inv-walk μ-walk
-returns-2 c = walk-done (c .before .walk .inv) (omega (arith, c .before .before .node-count .ensures))
+returns-2 c =
+    let w : Place tie.At-walk = search in
+    let n : Place tie.After-node-count = search in
+    walk-done (w .walk .inv) (omega (arith, n .node-count .ensures))
 
 pub next-repair-spec : {M : Type 1} → statement M
 next-repair-spec =
@@ -76,13 +97,13 @@ next-repair-spec =
     μ-search
     Inv-walk
     μ-walk
-    node-count-requires
+    (λ c κs. let e : Place tie.Start = search in e .pre .0 .range)
     walk-holds
     (λ c. omega (arith, element-copy-out-if1 c))
     element-copy-out-if1
     (λ c. omega arith)
     walk-again
-    (λ c. omega (arith, element-copy-out-if1 (c .before .before)))
+    (λ c. omega (arith, element-copy-out-if1 (search)))
     (λ c. omega arith)
     walk-again-2
     search-holds
