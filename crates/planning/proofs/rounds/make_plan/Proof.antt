@@ -1,7 +1,7 @@
 -- `planning::rounds::make_plan` meets its contract: each turn makes a round, until one has no steps.
 -- Assumes nothing.
 use mathlib.Core.Path.{_∙_}
-use Prim.Native.Nat.{_-_}
+use Prim.Native.Nat.{_-_, _≤_}
 use native.Mathlib.Omega.{arith}
 use borrow.Author.Needs.{needs}
 use Rattle.families.proofs.Laws.{few}
@@ -16,57 +16,75 @@ Inv-loop family k out₀ n columns marks₀ steps₀ rounds₀ out marks steps r
 abbrev μ-loop : tie.MeasureT-loop
 μ-loop family k out₀ n columns marks₀ steps₀ rounds₀ out marks steps rounds = n - rounds
 
-node-count-requires : tie.Need-node-count-requires Inv-loop μ-loop
-node-count-requires c κs = c .before .pre .0
-
-columns-requires : tie.Need-columns-requires Inv-loop μ-loop
-columns-requires c κs = c .before .before .pre .0
+-- A place of the code. An earlier place is found by its type, with `search`; only a statement counts the places in between.
+abbrev Place : (tie.InvT-loop → tie.MeasureT-loop → Type 0) → Type 0
+Place P = P Inv-loop μ-loop
 
 loop-holds : tie.Need-loop-holds Inv-loop μ-loop
-loop-holds c = rounds-none (c .before .before .before .pre .0) (search needs) (c .before .before .before .pre .1)
+loop-holds c = let e : Place tie.Start = search in rounds-none (e .pre .0) (search needs) (e .pre .1)
 
-add-plan-round : tie.Need-add-plan-round Inv-loop μ-loop
-add-plan-round c = omega (arith, all-few (c .before .before .loop .inv), c .before .before .loop .inv .fewer, few _ _ (c .before .before .loop .inv .range))
-
-mul-plan-round : tie.Need-mul-plan-round Inv-loop μ-loop
-mul-plan-round c = omega (arith, all-few (c .before .before .before .loop .inv), few _ _ (c .before .before .before .loop .inv .range))
+-- the steps and rounds so far
+so-few : (t : Place tie.At-loop) → (t .loop .steps ≤ 255) × (t .loop .rounds ≤ 255)
+so-few t =
+    let w = t .loop .inv in
+    let h : t .loop .steps ≤ 255 = omega (arith, all-few w, few _ _ (w .range)) in
+    (h, omega (arith, w .fewer))
 
 plan-round-requires : tie.Need-plan-round-requires Inv-loop μ-loop
 plan-round-requires c κs =
-    let w = c .before .before .before .before .loop .inv in
-    ((w .range, c .before .before .before .before .before .columns .ensures), (omega (arith, all-few w, w .fewer, few _ _ (w .range)), round-fits w))
+    let t : Place tie.At-loop = search in
+    let f : Place tie.After-columns = search in
+    let w = t .loop .inv in
+    ((w .range, f .columns .ensures), (omega (arith, all-few w, w .fewer, few _ _ (w .range)), round-fits w))
 
 add-steps : tie.Need-add-steps Inv-loop μ-loop
-add-steps c = omega (arith, all-few (c .before .before .before .before .before .before .before .before .loop .inv), c .before .before .before .plan-round .ensures .0, few _ _ (c .before .before .before .before .before .before .before .before .loop .inv .range))
-
-add-rounds : tie.Need-add-rounds Inv-loop μ-loop
-add-rounds c = omega (arith, all-few (c .before .before .before .before .before .before .before .before .loop .inv), c .before .before .before .before .before .before .before .before .loop .inv .fewer, few _ _ (c .before .before .before .before .before .before .before .before .loop .inv .range))
+add-steps c =
+    let t : Place tie.At-loop = search in
+    let r : Place tie.After-plan-round = search in
+    let w = t .loop .inv in
+    omega (arith, all-few w, r .plan-round .ensures .0, few _ _ (w .range))
 
 loop-less : tie.Need-loop-less Inv-loop μ-loop
 loop-less c =
-    let w = c .before .before .before .before .before .before .before .before .loop .inv in
-    omega (arith, all-few w, w .fewer, c .before .before .before .plan-round .ensures .0, c .before .before .before .before .before .before .before .before .before .before .node-count .ensures)
+    let t : Place tie.At-loop = search in
+    let r : Place tie.After-plan-round = search in
+    let n : Place tie.After-node-count = search in
+    let w = t .loop .inv in
+    omega (arith, all-few w, w .fewer, r .plan-round .ensures .0, n .node-count .ensures)
 
 loop-again : tie.Need-loop-again Inv-loop μ-loop
 loop-again c =
-    let w = c .before .before .before .before .before .before .before .before .loop .inv in
-    let e = c .before .before .before .plan-round .ensures in
-    rw (e .0, e .1 .0, e .1 .1) (rounds-again w (omega (arith, e .0)))
+    let t : Place tie.At-loop = search in
+    let r : Place tie.After-plan-round = search in
+    let e = r .plan-round .ensures in
+    rw (e .0, e .1 .0, e .1 .1) (rounds-again (t .loop .inv) (omega (arith, e .0)))
 
 count-live-requires : tie.Need-count-live-requires Inv-loop μ-loop
-count-live-requires c κs = omega (arith, c .before .before .before .before .before .before .before .before .before .before .before .node-count .ensures, few _ _ (c .before .before .before .before .before .before .before .before .before .loop .inv .range))
+count-live-requires c κs =
+    let t : Place tie.At-loop = search in
+    let n : Place tie.After-node-count = search in
+    omega (arith, n .node-count .ensures, few _ _ (t .loop .inv .range))
 
 sub-t24 : tie.Need-sub-t24 Inv-loop μ-loop
-sub-t24 c = omega (arith, c .count-live .ensures, live-nodes-few (c .before .before .before .before .before .before .before .before .before .before .loop .marks) (c .before .before .before .before .before .before .before .before .before .before .before .before .node-count .result))
+sub-t24 c =
+    let t : Place tie.At-loop = search in
+    let n : Place tie.After-node-count = search in
+    omega (arith, c .count-live .ensures, live-nodes-few (t .loop .marks) (n .node-count .result))
 
 same-length : tie.Need-same-length Inv-loop μ-loop
-same-length c = c .before .before .before .before .before .plan-round .kept .1 .1 .1 .1 .1 .0 ∙ c .before .before .before .before .before .before .before .before .before .before .loop .inv .kept
+same-length c =
+    let t : Place tie.At-loop = search in
+    let r : Place tie.After-plan-round = search in
+    r .plan-round .kept .1 .1 .1 .1 .1 .0 ∙ t .loop .inv .kept
 
 returns : tie.Need-returns Inv-loop μ-loop
 returns c =
-    let w = c .before .before .before .before .before .before .before .before .before .before .loop .inv in
-    let e = c .before .before .before .before .before .plan-round .ensures in
-    (rw (c .count-live .ensures, c .before .before .before .before .before .before .before .before .before .before .before .before .node-count .ensures) (rounds-answer w (omega (arith, e .0))), rounds-bytes w (omega (arith, e .0)) (e .1 .0))
+    let t : Place tie.At-loop = search in
+    let r : Place tie.After-plan-round = search in
+    let n : Place tie.After-node-count = search in
+    let w = t .loop .inv in
+    let e = r .plan-round .ensures in
+    (rw (c .count-live .ensures, n .node-count .ensures) (rounds-answer w (omega (arith, e .0))), rounds-bytes w (omega (arith, e .0)) (e .1 .0))
 
 pub make-plan-spec : {M : Type 1} → statement M
 make-plan-spec =
@@ -74,14 +92,14 @@ make-plan-spec =
     (tie.spec
     Inv-loop
     μ-loop
-    node-count-requires
-    columns-requires
+    (λ c κs. let e : Place tie.Start = search in e .pre .0)
+    (λ c κs. let e : Place tie.Start = search in e .pre .0)
     loop-holds
-    add-plan-round
-    mul-plan-round
+    (λ c. omega (arith, so-few (search)))
+    (λ c. omega (arith, so-few (search)))
     plan-round-requires
     add-steps
-    add-rounds
+    (λ c. omega (arith, so-few (search)))
     loop-less
     loop-again
     count-live-requires
