@@ -1,8 +1,9 @@
 -- `planning::carry::carry_out` meets its contract: before turn i the first i steps are made.
 -- Assumes nothing.
-use Prim.Native.Nat.{_-_}
+use Prim.Native.Nat.{_-_, _*_, _≤_}
 use native.Mathlib.Omega.{arith}
 use borrow.Author.Needs.{needs}
+use lib.ListN.{length}
 use Rattle.planning.proofs.CarryLaws.{Carried, carry-none, carry-step, carry-more, carry-done}
 use Rattle.planning.proofs.carry.carry_out.Statement.{statement}
 use Rattle.planning.proofs.carry.carry_out.Tie as tie
@@ -13,24 +14,30 @@ Inv-loop len steps count nodes₀ i₀ nodes i = Carried len steps count nodes�
 abbrev μ-loop : tie.MeasureT-loop
 μ-loop len steps count nodes₀ i₀ nodes i = count - i
 
-loop-holds : tie.Need-loop-holds Inv-loop μ-loop
-loop-holds c = carry-none (c .before .before .pre .0) (c .before .before .pre .1)
+-- A place of the code. An earlier place is found by its type, with `search`; only a statement counts the places in between.
+abbrev Place : (tie.InvT-loop → tie.MeasureT-loop → Type 0) → Type 0
+Place P = P Inv-loop μ-loop
+
+room : (e : Place tie.Start) → 4 * e .args .count ≤ length (e .args .steps .now)
+room e = e .pre .0
 
 xor-block-requires : tie.Need-xor-block-requires Inv-loop μ-loop
 xor-block-requires c κs =
-    let s = carry-step (c .before .before .before .before .before .before .before .before .loop .inv) (omega arith) in
-    rw (c .before .before .before .before .before .wide .ensures, c .before .before .before .wide2 .ensures, c .before .wide3 .ensures) ((s .node, s .smaller, s .larger), (s .not-smaller, s .not-larger))
+    let t : Place tie.At-loop = search in
+    let x : Place tie.After-wide = search in
+    let y : Place tie.After-wide2 = search in
+    let z : Place tie.After-wide3 = search in
+    let s = carry-step (t .loop .inv) (omega arith) in
+    rw (x .wide .ensures, y .wide2 .ensures, z .wide3 .ensures) ((s .node, s .smaller, s .larger), (s .not-smaller, s .not-larger))
 
 loop-again : tie.Need-loop-again Inv-loop μ-loop
 loop-again c =
-    let w = c .before .before .before .before .before .before .before .before .before .before .before .loop .inv in
-    rw (c .before .before .xor-block .ensures, c .before .before .before .before .before .before .before .before .wide .ensures, c .before .before .before .before .before .before .wide2 .ensures, c .before .before .before .before .wide3 .ensures) (carry-more w (omega arith))
-
-same-length : tie.Need-same-length Inv-loop μ-loop
-same-length c = c .before .loop .inv .kept
-
-returns : tie.Need-returns Inv-loop μ-loop
-returns c = carry-done (c .before .loop .inv) (omega arith)
+    let t : Place tie.At-loop = search in
+    let x : Place tie.After-wide = search in
+    let y : Place tie.After-wide2 = search in
+    let z : Place tie.After-wide3 = search in
+    let b : Place tie.After-xor-block = search in
+    rw (b .xor-block .ensures, x .wide .ensures, y .wide2 .ensures, z .wide3 .ensures) (carry-more (t .loop .inv) (omega arith))
 
 pub carry-out-spec : {M : Type 1} → statement M
 carry-out-spec =
@@ -38,22 +45,22 @@ carry-out-spec =
     (tie.spec
     Inv-loop
     μ-loop
-    loop-holds
-    (λ c. omega (arith, c .before .loop .inv .room))
-    (λ c. omega (arith, c .before .loop .inv .room))
-    (λ c. omega (arith, c .before .before .loop .inv .room))
+    (λ c. let e : Place tie.Start = search in carry-none (e .pre .0) (e .pre .1))
+    (λ c. omega (arith, room (search)))
+    (λ c. omega (arith, room (search)))
+    (λ c. omega (arith, room (search)))
     (λ c κs. search needs)
-    (λ c. omega (arith, c .before .before .before .loop .inv .room))
-    (λ c. omega (arith, c .before .before .before .loop .inv .room))
-    (λ c. omega (arith, c .before .before .before .before .loop .inv .room))
+    (λ c. omega (arith, room (search)))
+    (λ c. omega (arith, room (search)))
+    (λ c. omega (arith, room (search)))
     (λ c κs. search needs)
-    (λ c. omega (arith, c .before .before .before .before .before .loop .inv .room))
-    (λ c. omega (arith, c .before .before .before .before .before .loop .inv .room))
-    (λ c. omega (arith, c .before .before .before .before .before .before .loop .inv .room))
+    (λ c. omega (arith, room (search)))
+    (λ c. omega (arith, room (search)))
+    (λ c. omega (arith, room (search)))
     (λ c κs. search needs)
     xor-block-requires
     (λ c. search needs)
     (λ c. search needs)
     loop-again
-    same-length
-    returns)
+    (λ c. let t : Place tie.At-loop = search in t .loop .inv .kept)
+    (λ c. let t : Place tie.At-loop = search in carry-done (t .loop .inv) (omega arith)))

@@ -17,26 +17,30 @@ Inv-loop family k columns live reached₀ i₀ reached i = Reaching family k liv
 abbrev μ-loop : tie.MeasureT-loop
 μ-loop family k columns live reached₀ i₀ reached i = length live - i
 
-node-count-requires : tie.Need-node-count-requires Inv-loop μ-loop
-node-count-requires c κs = c .before .pre .0 .0
+-- A place of the code. An earlier place is found by its type, with `search`; only a statement counts the places in between.
+abbrev Place : (tie.InvT-loop → tie.MeasureT-loop → Type 0) → Type 0
+Place P = P Inv-loop μ-loop
 
 returns : tie.Need-returns Inv-loop μ-loop
 unfolding worthTrying
 returns c =
-    let g = c .before .before .before .args in
-    rw (lt-ltb (nodeCount (g .family) (g .k) / 5) (length (g .live .now)) (omega (arith, c .before .node-count .ensures)))
+    let e : Place tie.Start = search in
+    let n : Place tie.After-node-count = search in
+    rw (lt-ltb (nodeCount (e .args .family) (e .args .k) / 5) (length (e .args .live .now)) (omega (arith, n .node-count .ensures)))
 
 set-thirds-requires : tie.Need-set-thirds-requires Inv-loop μ-loop
-set-thirds-requires c κs = (c .before .before .before .before .before .before .pre .0, (c .before .before .before .before .before .before .pre .1, omega arith))
+set-thirds-requires c κs = let e : Place tie.Start = search in (e .pre .0, (e .pre .1, omega arith))
 
 loop-again : tie.Need-loop-again Inv-loop μ-loop
-loop-again c = rw (c .set-thirds .ensures) (reaching-more (c .before .before .before .loop .inv) (omega arith))
+loop-again c = let t : Place tie.At-loop = search in rw (c .set-thirds .ensures) (reaching-more (t .loop .inv) (omega arith))
 
 returns-2 : tie.Need-returns-2 Inv-loop μ-loop
 unfolding worthTrying
 returns-2 c =
-    let g = c .before .before .before .before .before .args in
-    rw (le-ltb (nodeCount (g .family) (g .k) / 5) (length (g .live .now)) (omega (arith, c .before .before .before .node-count .ensures))) (reaching-done (c .before .loop .inv) (omega arith))
+    let e : Place tie.Start = search in
+    let n : Place tie.After-node-count = search in
+    let t : Place tie.At-loop = search in
+    rw (le-ltb (nodeCount (e .args .family) (e .args .k) / 5) (length (e .args .live .now)) (omega (arith, n .node-count .ensures))) (reaching-done (t .loop .inv) (omega arith))
 
 pub worth-trying-spec : {M : Type 1} → statement M
 worth-trying-spec =
@@ -44,7 +48,7 @@ worth-trying-spec =
     (tie.spec
     Inv-loop
     μ-loop
-    node-count-requires
+    (λ c κs. let e : Place tie.Start = search in e .pre .0 .0)
     returns
     (λ c. reaching-none _ _ _)
     set-thirds-requires
