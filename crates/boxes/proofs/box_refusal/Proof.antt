@@ -8,15 +8,17 @@ use Rattle.boxes.proofs.Answers.{parametersOf, by-short, by-parameters}
 use Rattle.boxes.proofs.box_refusal.Statement.{statement}
 use Rattle.boxes.proofs.box_refusal.Tie as tie
 
+-- An earlier place of the code is found by its type, with `search`; only a statement counts the places in between.
+
 -- what 1 to 3 give for the box's family, k and L
 bad-is : (c : tie.After-parameter-refusal) → c .parameter-refusal .result ≡ firstMet (parametersOf (c .before .before .before .before .before .before .args .bytes .now))
 bad-is c = cc
 
 returns-2 : tie.Need-returns-2
 returns-2 c =
-    let b = c .before .before .before .before .before .before .before .args .bytes .now in
-    let e = bad-is (c .before) in
-    e ∙ sym (by-parameters b (omega arith) (rw e at (c .if2 .taken)))
+    let e : tie.Start = search in
+    let i = bad-is (search) in
+    i ∙ sym (by-parameters (e .args .bytes .now) (omega arith) (rw i at (c .if2 .taken)))
 
 pub box-refusal-spec : {M : Type 1} → statement M
 box-refusal-spec =
@@ -28,5 +30,5 @@ box-refusal-spec =
     (λ c κs. search needs)
     (λ c κs. search needs)
     returns-2
-    (λ c κs. (omega arith, sym (bad-is (c .before)) ∙ c .if2 .left))
+    (λ c κs. (omega arith, sym (bad-is (search)) ∙ c .if2 .left))
     (λ c. search needs))

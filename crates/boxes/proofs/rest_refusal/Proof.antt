@@ -2,7 +2,8 @@
 -- Assumes nothing.
 use mathlib.Core.Path.{_≡_, sym, ap₂, _∙_}
 use mathlib.Core.Bool.{true}
-use Prim.Native.Nat.{_+_, _*_, _<_}
+use mathlib.Core.List.{List}
+use Prim.Native.Nat.{ℕ, _+_, _*_, _<_}
 use native.Mathlib.Nat.{mul-le-mul}
 use native.Mathlib.Omega.{arith}
 use borrow.Author.Tests.{not-true, not-false}
@@ -14,50 +15,60 @@ use Rattle.boxes.proofs.Answers.{by-zeros, by-length, by-held, by-list}
 use Rattle.boxes.proofs.rest_refusal.Statement.{statement}
 use Rattle.boxes.proofs.rest_refusal.Tie as tie
 
+-- An earlier place of the code is found by its type, with `search`; only a statement counts the places in between.
+
 -- E is a byte, and L two
-few : (c : tie.After-block-length) → c .before .held-count .result < 256
-few c = omega (arith, c .before .held-count .ensures, c .before .before .before .before .shared-slice-known .given 4)
+few : (c : tie.After-held-count) → c .held-count .result < 256
+few c = let k : tie.After-shared-slice-known = search in omega (arith, c .held-count .ensures, k .shared-slice-known .given 4)
 
 small : (c : tie.After-block-length) → c .before .held-count .result * c .block-length .result < 16777216
 small c =
-    let k = c .before .before .before .before .shared-slice-known .given in
-    let l : c .block-length .result < 65536 = omega (arith, c .block-length .ensures, k 2, k 3) in
-    let h = few c in
+    let k : tie.After-shared-slice-known = search in
+    let l : c .block-length .result < 65536 = omega (arith, c .block-length .ensures, k .shared-slice-known .given 2, k .shared-slice-known .given 3) in
+    let h = few (search) in
     omega (arith, mul-le-mul {n₁ = c .before .held-count .result} {m₁ = c .block-length .result} {n₂ = 255} {m₂ = 65535} (omega arith) (omega arith))
 
-length-is : (c : tie.After-block-length) → let b = c .before .before .before .before .before .args .bytes .now in 8 + c .before .held-count .result + c .before .held-count .result * c .block-length .result ≡ boxLength (heldCountIn b) (blockLengthIn b)
-length-is c = ap₂ boxLength (c .before .held-count .ensures) (c .block-length .ensures)
+abbrev box : tie.Else1 → List ℕ
+box c = c .before .before .before .args .bytes .now
 
 -- 8 is passed
-passed : (c : tie.Else1) → zerosIn (c .before .before .before .args .bytes .now) ≡ true
-passed c = sym (c .before .zeros .ensures) ∙ not-false _ (c .if1 .left)
+passed : (c : tie.Else1) → zerosIn (box c) ≡ true
+passed c = let z : tie.After-zeros = search in sym (z .zeros .ensures) ∙ not-false _ (c .if1 .left)
 
 returns : tie.Need-returns
 returns c =
-    let s = c .before .before .before in
-    sym (by-zeros _ (s .pre .0) (s .pre .1) (sym (c .before .zeros .ensures) ∙ not-true _ (c .if1 .taken)))
+    let e : tie.Start = search in
+    let z : tie.After-zeros = search in
+    sym (by-zeros _ (e .pre .0) (e .pre .1) (sym (z .zeros .ensures) ∙ not-true _ (c .if1 .taken)))
+
+length-is : (c : tie.After-block-length) → let h = c .before in 8 + h .held-count .result + h .held-count .result * c .block-length .result ≡ boxLength (heldCountIn (box (h .before))) (blockLengthIn (box (h .before)))
+length-is c = let h : tie.After-held-count = search in ap₂ boxLength (h .held-count .ensures) (c .block-length .ensures)
 
 returns-2 : tie.Need-returns-2
 returns-2 c =
-    let s = c .before .before .before .before .before .before in
-    sym (by-length _ (s .pre .0) (s .pre .1) (passed (c .before .before .before)) (rw (length-is (c .before)) at (c .if2 .taken)))
+    let e : tie.Start = search in
+    sym (by-length _ (e .pre .0) (e .pre .1) (passed (search)) (rw (length-is (search)) at (c .if2 .taken)))
 
 -- so is 7
-sized : (c : tie.Else2) → let b = c .before .before .before .before .before .before .args .bytes .now in length b ≡ boxLength (heldCountIn b) (blockLengthIn b)
-sized c = c .if2 .left ∙ length-is (c .before)
+sized : (c : tie.Else2) → let b = box (c .before .before .before) in length b ≡ boxLength (heldCountIn b) (blockLengthIn b)
+sized c = c .if2 .left ∙ length-is (search)
 
 returns-3 : tie.Need-returns-3
 returns-3 c =
-    let s = c .before .before .before .before .before .before .before .before in
-    sym (by-held _ (s .pre .0) (s .pre .1) (passed (c .before .before .before .before .before)) (sized (c .before .before))
-    (omega (arith, c .before .node-count .ensures, c .before .before .before .before .held-count .ensures, c .if3 .taken)))
+    let e : tie.Start = search in
+    let n : tie.After-node-count = search in
+    let h : tie.After-held-count = search in
+    sym (by-held _ (e .pre .0) (e .pre .1) (passed (search)) (sized (search)) (omega (arith, n .node-count .ensures, h .held-count .ensures, c .if3 .taken)))
 
 returns-4 : tie.Need-returns-4
 returns-4 c =
-    let s = c .before .before .before .before .before .before .before .before .before .before in
-    let n = c .before .before .before .node-count .ensures in
-    (rw (n, c .before .names .ensures) at (c .list-refusal .ensures))
-    ∙ sym (by-list _ (s .pre .0) (s .pre .1) (passed (c .before .before .before .before .before .before .before)) (sized (c .before .before .before .before)) (omega (arith, n, c .before .before .before .before .before .before .held-count .ensures, c .before .before .if3 .left)))
+    let e : tie.Start = search in
+    let n : tie.After-node-count = search in
+    let h : tie.After-held-count = search in
+    let l : tie.After-names = search in
+    let i : tie.Else3 = search in
+    (rw (n .node-count .ensures, l .names .ensures) at (c .list-refusal .ensures))
+    ∙ sym (by-list _ (e .pre .0) (e .pre .1) (passed (search)) (sized (search)) (omega (arith, n .node-count .ensures, h .held-count .ensures, i .if3 .left)))
 
 pub rest-refusal-spec : {M : Type 1} → statement M
 rest-refusal-spec =
@@ -67,12 +78,12 @@ rest-refusal-spec =
     returns
     (λ c κs. search needs)
     (λ c κs. search needs)
-    (λ c. omega (arith, few c))
+    (λ c. omega (arith, few (search)))
     (λ c. omega (arith, small c))
-    (λ c. omega (arith, few c, small c))
+    (λ c. omega (arith, few (search), small c))
     returns-2
-    (λ c κs. let p = c .before .before .before .before .before .before .pre in (p .0, in-range _ _ _ (p .1) .blocks))
+    (λ c κs. let e : tie.Start = search in (e .pre .0, in-range _ _ _ (e .pre .1) .blocks))
     returns-3
-    (λ c κs. (c .before .before .before .before .before .before .before .before .pre .0, omega (arith, sized (c .before .before))))
+    (λ c κs. let e : tie.Start = search in (e .pre .0, omega (arith, sized (search))))
     (λ c κs. search needs)
     returns-4)
