@@ -23,13 +23,16 @@ names-requires : tie.Need-names-requires
 names-requires c κs = let s = within (search) in (omega arith, omega arith)
 
 body-place-requires : tie.Need-body-place-requires
-body-place-requires c κs = let e : tie.Start = search in rw (c .names .ensures) (body-named _ _ (e .pre))
+body-place-requires c κs =
+    let e : tie.Start = search in
+    let l : tie.After-names = search in
+    rw (l .names .ensures) (body-named _ _ (e .pre))
 
 add-result-2 : tie.Need-add-result-2
-add-result-2 c = let h : tie.After-held-count = search in omega (arith, place-is c, h .held-count .ensures, within (search))
+add-result-2 c = let h : tie.After-held-count = search in omega (arith, place-is (search), h .held-count .ensures, within (search))
 
 returns : tie.Need-returns
-returns c = let h : tie.After-held-count = search in rw (place-is c, h .held-count .ensures)
+returns c = let h : tie.After-held-count = search in rw (place-is (search), h .held-count .ensures)
 
 pub body-start-spec : {M : Type 1} → statement M
 body-start-spec =
@@ -37,9 +40,9 @@ body-start-spec =
     (tie.spec
     (λ c κs. omega (arith, within (search)))
     (λ c κs. omega (arith, within (search)))
-    (λ c. omega (arith, c .held-count .ensures, within (search)))
+    (λ c. let h : tie.After-held-count = search in omega (arith, h .held-count .ensures, within (search)))
     names-requires
     body-place-requires
-    (λ c. omega (arith, place-is c, within (search)))
+    (λ c. omega (arith, place-is (search), within (search)))
     add-result-2
     returns)

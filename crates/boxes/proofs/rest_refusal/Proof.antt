@@ -79,8 +79,8 @@ rest-refusal-spec =
     (λ c κs. search needs)
     (λ c κs. search needs)
     (λ c. omega (arith, few (search)))
-    (λ c. omega (arith, small c))
-    (λ c. omega (arith, few (search), small c))
+    (λ c. omega (arith, small (search)))
+    (λ c. omega (arith, few (search), small (search)))
     returns-2
     (λ c κs. let e : tie.Start = search in (e .pre .0, in-range _ _ _ (e .pre .1) .blocks))
     returns-3

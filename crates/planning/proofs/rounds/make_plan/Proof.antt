@@ -69,7 +69,8 @@ sub-t24 : tie.Need-sub-t24 Inv-loop μ-loop
 sub-t24 c =
     let t : Place tie.At-loop = search in
     let n : Place tie.After-node-count = search in
-    omega (arith, c .count-live .ensures, live-nodes-few (t .loop .marks) (n .node-count .result))
+    let l : Place tie.After-count-live = search in
+    omega (arith, l .count-live .ensures, live-nodes-few (t .loop .marks) (n .node-count .result))
 
 same-length : tie.Need-same-length Inv-loop μ-loop
 same-length c =
@@ -82,9 +83,10 @@ returns c =
     let t : Place tie.At-loop = search in
     let r : Place tie.After-plan-round = search in
     let n : Place tie.After-node-count = search in
+    let l : Place tie.After-count-live = search in
     let w = t .loop .inv in
     let e = r .plan-round .ensures in
-    (rw (c .count-live .ensures, n .node-count .ensures) (rounds-answer w (omega (arith, e .0))), rounds-bytes w (omega (arith, e .0)) (e .1 .0))
+    (rw (l .count-live .ensures, n .node-count .ensures) (rounds-answer w (omega (arith, e .0))), rounds-bytes w (omega (arith, e .0)) (e .1 .0))
 
 pub make-plan-spec : {M : Type 1} → statement M
 make-plan-spec =

@@ -34,7 +34,7 @@ node-few : (e : Place tie.Start) → nodeCount (e .args .family) (e .args .k) �
 node-few e = few _ _ (e .pre .0 .0)
 
 count-live-requires : tie.Need-count-live-requires Inv-loop μ-loop
-count-live-requires c κs = omega (arith, c .node-count .ensures, node-few (search))
+count-live-requires c κs = let n : Place tie.After-node-count = search in omega (arith, n .node-count .ensures, node-few (search))
 
 -- where every node is live the round has no steps
 returns : tie.Need-returns Inv-loop μ-loop
@@ -69,7 +69,8 @@ worth-trying-requires c κs = let e : Place tie.Start = search in (e .pre .0, rw
 loop-holds : tie.Need-loop-holds Inv-loop μ-loop
 loop-holds c =
     let e : Place tie.Start = search in
-    (record { range = e .pre .0 .0; table = e .pre .0 .1; nodes = live-list (search) }, c .worth-trying .ensures, round-none (e .pre .1 .1))
+    let w : Place tie.After-worth-trying = search in
+    (record { range = e .pre .0 .0; table = e .pre .0 .1; nodes = live-list (search) }, w .worth-trying .ensures, round-none (e .pre .1 .1))
 
 next-repair-requires : tie.Need-next-repair-requires Inv-loop μ-loop
 next-repair-requires c κs = (search needs, (search needs, search needs))
@@ -90,13 +91,13 @@ found c =
     next-some _ _ _ _ _ _ (r .next-repair .ensures) (e .pre .0 .0) (t .loop .inv .2 .within) (c .if2 .left)
 
 part-put-step-end : tie.Need-part-put-step-end Inv-loop μ-loop
-part-put-step-end c = let t : Place tie.At-loop = search in round-room (t .loop .inv .2) _ (found c)
+part-put-step-end c = let t : Place tie.At-loop = search in round-room (t .loop .inv .2) _ (found (search))
 
 add-put-step : tie.Need-add-put-step Inv-loop μ-loop
 add-put-step c =
     let e : Place tie.Start = search in
     let t : Place tie.At-loop = search in
-    omega (arith, part-put-step-end c, t .loop .inv .2 .kept, e)
+    omega (arith, part-put-step-end (search), t .loop .inv .2 .kept, e)
 
 put-step-requires : tie.Need-put-step-requires Inv-loop μ-loop
 put-step-requires c κs =
@@ -143,8 +144,8 @@ plan-round-spec =
     next-repair-requires
     (λ c. let t : Place tie.At-loop = search in t .loop .inv .2 .kept)
     returns-2
-    (λ c. omega (arith, add-put-step c))
-    (λ c. omega (arith, add-put-step c))
+    (λ c. omega (arith, add-put-step (search)))
+    (λ c. omega (arith, add-put-step (search)))
     add-put-step
     (λ c. omega arith)
     (λ c. omega arith)

@@ -34,7 +34,7 @@ is-partner c =
     partner-at _ _ (p .0 .0) (now (e .args .marks)) _ _ (p .0 .1) (p .0 .2) (p .1) (c .third-node .ensures)
 
 element-copy-out-if1 : tie.Need-element-copy-out-if1
-element-copy-out-if1 c = let e : tie.Start = search in omega (arith, is-partner c, third-few _ _ (e .pre .0 .0) (e .args .j) (e .args .a))
+element-copy-out-if1 c = let e : tie.Start = search in omega (arith, is-partner (search), third-few _ _ (e .pre .0 .0) (e .args .j) (e .args .a))
 
 returns : tie.Need-returns
 returns c =

@@ -36,7 +36,7 @@ below : (c : Place tie.In-walk) → let w = c .before in let g = w .before .befo
 below c = let n : Place tie.After-node-count = search in omega (arith, n .node-count .ensures)
 
 element-copy-out-if1 : tie.Need-element-copy-out-if1 Inv-search μ-search Inv-walk μ-walk
-element-copy-out-if1 c = let w : Place tie.At-walk = search in omega (arith, below c, few _ _ (w .walk .inv .begins .range))
+element-copy-out-if1 c = let w : Place tie.At-walk = search in omega (arith, below (search), few _ _ (w .walk .inv .begins .range))
 
 walk-again : tie.Need-walk-again Inv-search μ-search Inv-walk μ-walk
 walk-again c = let w : Place tie.At-walk = search in walk-live (w .walk .inv) (below (search)) (c .if1 .taken)
@@ -63,9 +63,10 @@ live-partner-requires : tie.Need-live-partner-requires Inv-search μ-search Inv-
 live-partner-requires c κs =
     let w : Place tie.At-walk = search in
     let s : Place tie.At-search = search in
+    let a : Place tie.After-wide = search in
     let b = w .walk .inv .begins in
     let l = below (search) in
-    ((b .range, walk-node (w .walk .inv) l, rw (c .wide .ensures) (search-node (w .walk .inv) l (s .search .inv) (omega arith))), b .table)
+    ((b .range, walk-node (w .walk .inv) l, rw (a .wide .ensures) (search-node (w .walk .inv) l (s .search .inv) (omega arith))), b .table)
 
 search-again : tie.Need-search-again Inv-search μ-search Inv-walk μ-walk
 search-again c =

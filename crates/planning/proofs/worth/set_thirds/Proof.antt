@@ -62,10 +62,10 @@ element-write-reached : tie.Need-element-write-reached Inv-loop μ-loop
 element-write-reached c =
     let e : Place tie.Start = search in
     let t : Place tie.At-loop = search in
-    omega (arith, third-is c, third-few _ _ (e .pre .0 .0) (getD (e .args .live .now) (e .args .i) 0) (getD (e .args .live .now) (t .loop .next) 0))
+    omega (arith, third-is (search), third-few _ _ (e .pre .0 .0) (getD (e .args .live .now) (e .args .i) 0) (getD (e .args .live .now) (t .loop .next) 0))
 
 loop-again : tie.Need-loop-again Inv-loop μ-loop
-loop-again c = let t : Place tie.At-loop = search in setting-more (t .loop .inv) (c .third-node .result) (omega arith) (third-is c)
+loop-again c = let t : Place tie.At-loop = search in setting-more (t .loop .inv) _ (omega arith) (third-is (search))
 
 pub set-thirds-spec : {M : Type 1} → statement M
 set-thirds-spec =

@@ -32,7 +32,10 @@ set-thirds-requires : tie.Need-set-thirds-requires Inv-loop μ-loop
 set-thirds-requires c κs = let e : Place tie.Start = search in (e .pre .0, (e .pre .1, omega arith))
 
 loop-again : tie.Need-loop-again Inv-loop μ-loop
-loop-again c = let t : Place tie.At-loop = search in rw (c .set-thirds .ensures) (reaching-more (t .loop .inv) (omega arith))
+loop-again c =
+    let t : Place tie.At-loop = search in
+    let s : Place tie.After-set-thirds = search in
+    rw (s .set-thirds .ensures) (reaching-more (t .loop .inv) (omega arith))
 
 returns-2 : tie.Need-returns-2 Inv-loop μ-loop
 unfolding worthTrying
