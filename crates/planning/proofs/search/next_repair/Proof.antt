@@ -35,8 +35,8 @@ walk-holds c = let e : Place tie.Start = search in walk-none (e .pre .0) (e .pre
 below : (c : Place tie.In-walk) → let w = c .before in let g = w .before .before .before .args in w .walk .node < nodeCount (g .family) (g .k)
 below c = let n : Place tie.After-node-count = search in omega (arith, n .node-count .ensures)
 
-element-copy-out-if1 : tie.Need-element-copy-out-if1 Inv-search μ-search Inv-walk μ-walk
-element-copy-out-if1 c = let w : Place tie.At-walk = search in omega (arith, below (search), few _ _ (w .walk .inv .begins .range))
+few-before : (c : Place tie.In-walk) → c .before .walk .node < 255
+few-before c = let w : Place tie.At-walk = search in omega (arith, below c, few _ _ (w .walk .inv .begins .range))
 
 walk-again : tie.Need-walk-again Inv-search μ-search Inv-walk μ-walk
 walk-again c = let w : Place tie.At-walk = search in walk-live (w .walk .inv) (below (search)) (c .if1 .taken)
@@ -100,11 +100,11 @@ next-repair-spec =
     μ-walk
     (λ c κs. let e : Place tie.Start = search in e .pre .0 .range)
     walk-holds
-    (λ c. omega (arith, element-copy-out-if1 c))
-    element-copy-out-if1
+    (λ c. omega (arith, few-before (search)))
+    (λ c. omega (arith, few-before (search)))
     (λ c. omega arith)
     walk-again
-    (λ c. omega (arith, element-copy-out-if1 (search)))
+    (λ c. omega (arith, few-before (search)))
     (λ c. omega arith)
     walk-again-2
     search-holds
