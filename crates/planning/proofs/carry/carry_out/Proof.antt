@@ -62,5 +62,5 @@ carry-out-spec =
     (λ c. search needs)
     (λ c. search needs)
     loop-again
-    (λ c. let t : Place tie.At-loop = search in t .loop .inv .kept)
+    (λ c. search)
     (λ c. let t : Place tie.At-loop = search in carry-done (t .loop .inv) (omega arith)))

@@ -94,8 +94,8 @@ make-plan-spec =
     (tie.spec
     Inv-loop
     μ-loop
-    (λ c κs. let e : Place tie.Start = search in e .pre .0)
-    (λ c κs. let e : Place tie.Start = search in e .pre .0)
+    (λ c κs. search)
+    (λ c κs. search)
     loop-holds
     (λ c. omega (arith, so-few (search)))
     (λ c. omega (arith, so-few (search)))

@@ -131,7 +131,7 @@ plan-round-spec =
     (tie.spec
     Inv-loop
     μ-loop
-    (λ c κs. let e : Place tie.Start = search in e .pre .0 .0)
+    (λ c κs. search)
     count-live-requires
     returns
     list-live-requires
@@ -142,7 +142,7 @@ plan-round-spec =
     (λ c. array-share-prefix-all (search))
     (λ c. rw length-take (omega (arith, array-share-prefix-all (search))))
     next-repair-requires
-    (λ c. let t : Place tie.At-loop = search in t .loop .inv .2 .kept)
+    (λ c. search)
     returns-2
     (λ c. omega (arith, add-put-step (search)))
     (λ c. omega (arith, add-put-step (search)))

@@ -98,7 +98,7 @@ next-repair-spec =
     μ-search
     Inv-walk
     μ-walk
-    (λ c κs. let e : Place tie.Start = search in e .pre .0 .range)
+    (λ c κs. search)
     walk-holds
     (λ c. omega (arith, few-before (search)))
     (λ c. omega (arith, few-before (search)))

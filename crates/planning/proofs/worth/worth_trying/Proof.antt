@@ -51,7 +51,7 @@ worth-trying-spec =
     (tie.spec
     Inv-loop
     μ-loop
-    (λ c κs. let e : Place tie.Start = search in e .pre .0 .0)
+    (λ c κs. search)
     returns
     (λ c. reaching-none _ _ _)
     set-thirds-requires
