@@ -37,17 +37,14 @@ passed c = let z : tie.After-zeros = search in sym (z .zeros .ensures) ∙ not-f
 
 returns : tie.Need-returns
 returns c =
-    let e : tie.Start = search in
     let z : tie.After-zeros = search in
-    sym (by-zeros _ (e .pre .0) (e .pre .1) (sym (z .zeros .ensures) ∙ not-true _ (c .if1 .taken)))
+    sym (by-zeros _ (search) (search) (sym (z .zeros .ensures) ∙ not-true _ (c .if1 .taken)))
 
 length-is : (c : tie.After-block-length) → let h = c .before in 8 + h .held-count .result + h .held-count .result * c .block-length .result ≡ boxLength (heldCountIn (box (h .before))) (blockLengthIn (box (h .before)))
 length-is c = let h : tie.After-held-count = search in ap₂ boxLength (h .held-count .ensures) (c .block-length .ensures)
 
 returns-2 : tie.Need-returns-2
-returns-2 c =
-    let e : tie.Start = search in
-    sym (by-length _ (e .pre .0) (e .pre .1) (passed (search)) (rw (length-is (search)) at (c .if2 .taken)))
+returns-2 c = sym (by-length _ (search) (search) (passed (search)) (rw (length-is (search)) at (c .if2 .taken)))
 
 -- so is 7
 sized : (c : tie.Else2) → let b = box (c .before .before .before) in length b ≡ boxLength (heldCountIn b) (blockLengthIn b)
@@ -55,20 +52,18 @@ sized c = c .if2 .left ∙ length-is (search)
 
 returns-3 : tie.Need-returns-3
 returns-3 c =
-    let e : tie.Start = search in
     let n : tie.After-node-count = search in
     let h : tie.After-held-count = search in
-    sym (by-held _ (e .pre .0) (e .pre .1) (passed (search)) (sized (search)) (omega (arith, n .node-count .ensures, h .held-count .ensures, c .if3 .taken)))
+    sym (by-held _ (search) (search) (passed (search)) (sized (search)) (omega (arith, n .node-count .ensures, h .held-count .ensures, c .if3 .taken)))
 
 returns-4 : tie.Need-returns-4
 returns-4 c =
-    let e : tie.Start = search in
     let n : tie.After-node-count = search in
     let h : tie.After-held-count = search in
     let l : tie.After-names = search in
     let i : tie.Else3 = search in
     (rw (n .node-count .ensures, l .names .ensures) at (c .list-refusal .ensures))
-    ∙ sym (by-list _ (e .pre .0) (e .pre .1) (passed (search)) (sized (search)) (omega (arith, n .node-count .ensures, h .held-count .ensures, i .if3 .left)))
+    ∙ sym (by-list _ (search) (search) (passed (search)) (sized (search)) (omega (arith, n .node-count .ensures, h .held-count .ensures, i .if3 .left)))
 
 pub rest-refusal-spec : {M : Type 1} → statement M
 rest-refusal-spec =
@@ -82,8 +77,8 @@ rest-refusal-spec =
     (λ c. omega (arith, small (search)))
     (λ c. omega (arith, few (search), small (search)))
     returns-2
-    (λ c κs. let e : tie.Start = search in (e .pre .0, in-range _ _ _ (e .pre .1) .blocks))
+    (λ c κs. let e : tie.Start = search in (search, in-range _ _ _ (e .pre .1) .blocks))
     returns-3
-    (λ c κs. let e : tie.Start = search in (e .pre .0, omega (arith, sized (search))))
+    (λ c κs. (search, omega (arith, sized (search))))
     (λ c κs. search needs)
     returns-4)

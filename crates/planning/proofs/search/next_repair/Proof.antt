@@ -29,7 +29,7 @@ abbrev Place : (tie.InvT-search → tie.MeasureT-search → tie.InvT-walk → ti
 Place P = P Inv-search μ-search Inv-walk μ-walk
 
 walk-holds : tie.Need-walk-holds Inv-search μ-search Inv-walk μ-walk
-walk-holds c = let e : Place tie.Start = search in walk-none (e .pre .0) (e .pre .1 .1)
+walk-holds c = walk-none (search) (search)
 
 -- the next node is a node
 below : (c : Place tie.In-walk) → let w = c .before in let g = w .before .before .before .args in w .walk .node < nodeCount (g .family) (g .k)
@@ -39,7 +39,7 @@ few-before : (c : Place tie.In-walk) → c .before .walk .node < 255
 few-before c = let w : Place tie.At-walk = search in omega (arith, below c, few _ _ (w .walk .inv .begins .range))
 
 walk-again : tie.Need-walk-again Inv-search μ-search Inv-walk μ-walk
-walk-again c = let w : Place tie.At-walk = search in walk-live (w .walk .inv) (below (search)) (c .if1 .taken)
+walk-again c = walk-live (search) (below (search)) (c .if1 .taken)
 
 walk-again-2 : tie.Need-walk-again-2 Inv-search μ-search Inv-walk μ-walk
 walk-again-2 c =
