@@ -10,8 +10,6 @@ use Rattle.boxes.proofs.Laws.{accepted-box, has-names}
 use Rattle.boxes.proofs.body_refusal.Statement.{statement}
 use Rattle.boxes.proofs.body_refusal.Tie as tie
 
--- An earlier place of the code is found by its type, with `search`; only a statement counts the places in between.
-
 -- the box is accepted
 passed : (c : tie.Else1) → firstMet (boxChecks (c .before .before .before .args .bytes .now)) ≡ 0
 passed c = let b : tie.After-box-refusal = search in sym (b .box-refusal .ensures) ∙ c .if1 .left
@@ -23,28 +21,25 @@ returns c =
 
 returns-3 : tie.Need-returns-3
 returns-3 c =
-    let e : tie.Start = search in
     let n : tie.After-node-count = search in
-    sym (by-high (e .args .bytes .now) (e .args .j) (passed (search)) (omega (arith, n .node-count .ensures, c .if3 .taken)))
+    sym (by-high _ _ (passed (search)) (omega (arith, n .node-count .ensures, c .if3 .taken)))
 
 returns-4 : tie.Need-returns-4
 returns-4 c =
-    let e : tie.Start = search in
     let n : tie.After-node-count = search in
     let h : tie.After-held-count = search in
     let l : tie.After-names = search in
     let p : tie.After-place-in = search in
-    sym (by-missing (e .args .bytes .now) (e .args .j) (passed (search)) (omega arith) (omega (arith, n .node-count .ensures))
+    sym (by-missing _ _ (passed (search)) (omega arith) (omega (arith, n .node-count .ensures))
     (omega (arith, rw (l .names .ensures) at (p .place-in .ensures), h .held-count .ensures, c .if4 .taken)))
 
 returns-5 : tie.Need-returns-5
 returns-5 c =
-    let e : tie.Start = search in
     let n : tie.After-node-count = search in
     let h : tie.After-held-count = search in
     let l : tie.After-names = search in
     let p : tie.After-place-in = search in
-    sym (by-none (e .args .bytes .now) (e .args .j) (passed (search)) (omega arith) (omega (arith, n .node-count .ensures))
+    sym (by-none _ _ (passed (search)) (omega arith) (omega (arith, n .node-count .ensures))
     (omega (arith, rw (l .names .ensures) at (p .place-in .ensures), h .held-count .ensures, c .if4 .left)))
 
 pub body-refusal-spec : {M : Type 1} → statement M

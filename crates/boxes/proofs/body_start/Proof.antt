@@ -9,8 +9,6 @@ use Rattle.boxes.proofs.Laws.{body-named, body-within}
 use Rattle.boxes.proofs.body_start.Statement.{statement}
 use Rattle.boxes.proofs.body_start.Tie as tie
 
--- An earlier place of the code is found by its type, with `search`; only a statement counts the places in between.
-
 -- the body lies within the box
 within : (e : tie.Start) → bodyStart (e .args .bytes .now) (e .args .j) + blockLengthIn (e .args .bytes .now) ≤ length (e .args .bytes .now)
 within e = body-within _ _ (e .pre)

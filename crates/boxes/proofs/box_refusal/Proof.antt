@@ -8,8 +8,6 @@ use Rattle.boxes.proofs.Answers.{parametersOf, by-short, by-parameters}
 use Rattle.boxes.proofs.box_refusal.Statement.{statement}
 use Rattle.boxes.proofs.box_refusal.Tie as tie
 
--- An earlier place of the code is found by its type, with `search`; only a statement counts the places in between.
-
 -- what 1 to 3 give for the box's family, k and L
 bad-is : (c : tie.After-parameter-refusal) → c .parameter-refusal .result ≡ firstMet (parametersOf (c .before .before .before .before .before .before .args .bytes .now))
 bad-is c = cc

@@ -15,8 +15,6 @@ use Rattle.boxes.proofs.Answers.{by-zeros, by-length, by-held, by-list}
 use Rattle.boxes.proofs.rest_refusal.Statement.{statement}
 use Rattle.boxes.proofs.rest_refusal.Tie as tie
 
--- An earlier place of the code is found by its type, with `search`; only a statement counts the places in between.
-
 -- E is a byte, and L two
 few : (c : tie.After-held-count) → c .held-count .result < 256
 few c = let k : tie.After-shared-slice-known = search in omega (arith, c .held-count .ensures, k .shared-slice-known .given 4)

@@ -14,7 +14,7 @@ Inv-loop len steps count nodes₀ i₀ nodes i = Carried len steps count nodes�
 abbrev μ-loop : tie.MeasureT-loop
 μ-loop len steps count nodes₀ i₀ nodes i = count - i
 
--- A place of the code. An earlier place is found by its type, with `search`; only a statement counts the places in between.
+-- a place of the code, which `search` finds by its type
 abbrev Place : (tie.InvT-loop → tie.MeasureT-loop → Type 0) → Type 0
 Place P = P Inv-loop μ-loop
 
@@ -45,7 +45,7 @@ carry-out-spec =
     (tie.spec
     Inv-loop
     μ-loop
-    (λ c. let e : Place tie.Start = search in carry-none (e .pre .0) (e .pre .1))
+    (λ c. carry-none (search) (search))
     (λ c. omega (arith, room (search)))
     (λ c. omega (arith, room (search)))
     (λ c. omega (arith, room (search)))

@@ -16,12 +16,12 @@ Inv-loop family k out₀ n columns marks₀ steps₀ rounds₀ out marks steps r
 abbrev μ-loop : tie.MeasureT-loop
 μ-loop family k out₀ n columns marks₀ steps₀ rounds₀ out marks steps rounds = n - rounds
 
--- A place of the code. An earlier place is found by its type, with `search`; only a statement counts the places in between.
+-- a place of the code, which `search` finds by its type
 abbrev Place : (tie.InvT-loop → tie.MeasureT-loop → Type 0) → Type 0
 Place P = P Inv-loop μ-loop
 
 loop-holds : tie.Need-loop-holds Inv-loop μ-loop
-loop-holds c = let e : Place tie.Start = search in rounds-none (e .pre .0) (search needs) (e .pre .1)
+loop-holds c = rounds-none (search) (search needs) (search)
 
 -- the steps and rounds so far
 so-few : (t : Place tie.At-loop) → (t .loop .steps ≤ 255) × (t .loop .rounds ≤ 255)
@@ -33,9 +33,8 @@ so-few t =
 plan-round-requires : tie.Need-plan-round-requires Inv-loop μ-loop
 plan-round-requires c κs =
     let t : Place tie.At-loop = search in
-    let f : Place tie.After-columns = search in
     let w = t .loop .inv in
-    ((w .range, f .columns .ensures), (omega (arith, all-few w, w .fewer, few _ _ (w .range)), round-fits w))
+    ((search, search), (omega (arith, all-few w, w .fewer, few _ _ (w .range)), round-fits w))
 
 add-steps : tie.Need-add-steps Inv-loop μ-loop
 add-steps c =

@@ -26,7 +26,7 @@ Inv-loop family k columns marks round out₀ from next₀ n count all worth step
 abbrev μ-loop : tie.MeasureT-loop
 μ-loop family k columns marks round out₀ from next₀ n count all worth steps₀ node₀ out next steps node = n - node
 
--- A place of the code. An earlier place is found by its type, with `search`; only a statement counts the places in between.
+-- a place of the code, which `search` finds by its type
 abbrev Place : (tie.InvT-loop → tie.MeasureT-loop → Type 0) → Type 0
 Place P = P Inv-loop μ-loop
 
@@ -64,13 +64,10 @@ array-share-prefix-all c =
     omega (arith, rw (live-list c) at (length-take (l .count-live .result) (c .list-live .result)), rw (n .node-count .ensures) at (l .count-live .ensures))
 
 worth-trying-requires : tie.Need-worth-trying-requires Inv-loop μ-loop
-worth-trying-requires c κs = let e : Place tie.Start = search in (e .pre .0, rw (live-list (search)) (live-nodes-inside (now (e .args .marks)) _))
+worth-trying-requires c κs = let e : Place tie.Start = search in (search, rw (live-list (search)) (live-nodes-inside (now (e .args .marks)) _))
 
 loop-holds : tie.Need-loop-holds Inv-loop μ-loop
-loop-holds c =
-    let e : Place tie.Start = search in
-    let w : Place tie.After-worth-trying = search in
-    (record { range = e .pre .0 .0; table = e .pre .0 .1; nodes = live-list (search) }, w .worth-trying .ensures, round-none (e .pre .1 .1))
+loop-holds c = (record { range = search; table = search; nodes = live-list (search) }, search, round-none (search))
 
 next-repair-requires : tie.Need-next-repair-requires Inv-loop μ-loop
 next-repair-requires c κs = (search needs, (search needs, search needs))
@@ -84,11 +81,7 @@ returns-2 c =
 
 -- the repair that was found
 found : (c : Place tie.Else2) → let r = c .before .before in let t = r .before .before .before in let g = t .before .before .before .before .before .before .before .before .args in Next (g .family) (g .k) (now (g .marks)) (g .round) (t .loop .node) (r .next-repair .result)
-found c =
-    let e : Place tie.Start = search in
-    let t : Place tie.At-loop = search in
-    let r : Place tie.After-next-repair = search in
-    next-some _ _ _ _ _ _ (r .next-repair .ensures) (e .pre .0 .0) (t .loop .inv .2 .within) (c .if2 .left)
+found c = next-some _ _ _ _ _ _ (search) (search) (search) (c .if2 .left)
 
 part-put-step-end : tie.Need-part-put-step-end Inv-loop μ-loop
 part-put-step-end c = let t : Place tie.At-loop = search in round-room (t .loop .inv .2) _ (found (search))

@@ -1,6 +1,7 @@
 -- `planning::search::live_partner` meets its contract: the only node that can be it is the one with the XOR of the columns.
 -- Assumes nothing.
 use mathlib.Core.Path.{_≡_}
+use Prim.Native.Nat.{_≤_}
 use native.Mathlib.Omega.{arith}
 use denote.Ref.{now}
 use borrow.Author.Tests.{not-true, not-false}
@@ -10,12 +11,8 @@ use Rattle.planning.proofs.PairLaws.{partner, partner-at, third-few, li
 use Rattle.planning.proofs.search.live_partner.Statement.{statement}
 use Rattle.planning.proofs.search.live_partner.Tie as tie
 
--- An earlier place of the code is found by its type, with `search`; only a statement counts the places in between.
-element-copy-out-third-node : tie.Need-element-copy-out-third-node
-element-copy-out-third-node c = omega (arith, c .pre .0 .1 .last, few _ _ (c .pre .0 .0))
-
-element-copy-out-third-node-2 : tie.Need-element-copy-out-third-node-2
-element-copy-out-third-node-2 c = let e : tie.Start = search in omega (arith, e .pre .0 .2 .last, few _ _ (e .pre .0 .0))
+few-nodes : (e : tie.Start) → (e .args .j ≤ 255) × (e .args .a ≤ 255)
+few-nodes e = let f = few _ _ (e .pre .0 .0) in (omega (arith, e .pre .0 .1 .last), omega (arith, e .pre .0 .2 .last))
 
 third-node-requires : tie.Need-third-node-requires
 third-node-requires c κs =
@@ -37,25 +34,19 @@ element-copy-out-if1 : tie.Need-element-copy-out-if1
 element-copy-out-if1 c = let e : tie.Start = search in omega (arith, is-partner (search), third-few _ _ (e .pre .0 .0) (e .args .j) (e .args .a))
 
 returns : tie.Need-returns
-returns c =
-    let e : tie.Start = search in
-    let g = e .args in
-    live-none (g .family) (g .k) (e .pre .0 .0) (now (g .marks)) (g .j) (g .a) (is-partner (search)) (not-true _ (c .if1 .taken))
+returns c = live-none _ _ (search) _ _ _ (is-partner (search)) (not-true _ (c .if1 .taken))
 
 returns-2 : tie.Need-returns-2
-returns-2 c =
-    let e : tie.Start = search in
-    let g = e .args in
-    live-is (g .family) (g .k) (e .pre .0 .0) (now (g .marks)) (g .j) (g .a) (is-partner (search)) (not-false _ (c .if1 .left))
+returns-2 c = live-is _ _ (search) _ _ _ (is-partner (search)) (not-false _ (c .if1 .left))
 
 pub live-partner-spec : {M : Type 1} → statement M
 live-partner-spec =
     tie.close
     (tie.spec
-    (λ c. omega (arith, element-copy-out-third-node c))
-    element-copy-out-third-node
-    (λ c. omega (arith, element-copy-out-third-node-2 c))
-    element-copy-out-third-node-2
+    (λ c. omega (arith, few-nodes (search)))
+    (λ c. omega (arith, few-nodes (search)))
+    (λ c. omega (arith, few-nodes (search)))
+    (λ c. omega (arith, few-nodes (search)))
     third-node-requires
     element-copy-out-if1
     returns

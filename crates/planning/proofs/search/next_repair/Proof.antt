@@ -24,7 +24,7 @@ Inv-walk family k columns live marks worth after n node₀ node = Walking family
 abbrev μ-walk : tie.MeasureT-walk
 μ-walk family k columns live marks worth after n node₀ node = n - node
 
--- A place of the code. An earlier place is found by its type, with `search`; only a statement counts the places in between.
+-- a place of the code, which `search` finds by its type
 abbrev Place : (tie.InvT-search → tie.MeasureT-search → tie.InvT-walk → tie.MeasureT-walk → Type 0) → Type 0
 Place P = P Inv-search μ-search Inv-walk μ-walk
 
@@ -44,20 +44,17 @@ walk-again c = walk-live (search) (below (search)) (c .if1 .taken)
 walk-again-2 : tie.Need-walk-again-2 Inv-search μ-search Inv-walk μ-walk
 walk-again-2 c =
     let e : Place tie.Start = search in
-    let w : Place tie.At-walk = search in
-    walk-skip (w .walk .inv) (below (search)) (e .pre .1 .0) (not-true _ (c .if2 .taken))
+    walk-skip (search) (below (search)) (e .pre .1 .0) (not-true _ (c .if2 .taken))
 
 search-holds : tie.Need-search-holds Inv-search μ-search Inv-walk μ-walk
 search-holds c =
     let w : Place tie.At-walk = search in
-    let m : Place tie.Else1 = search in
-    search-none (w .walk .inv) (below (search)) (m .if1 .left)
+    search-none (w .walk .inv) (below (search)) (search)
 
 walk-again-3 : tie.Need-walk-again-3 Inv-search μ-search Inv-walk μ-walk
 walk-again-3 c =
-    let w : Place tie.At-walk = search in
     let s : Place tie.At-search = search in
-    walk-over (w .walk .inv) (below (search)) (s .search .inv) (omega arith)
+    walk-over (search) (below (search)) (s .search .inv) (omega arith)
 
 live-partner-requires : tie.Need-live-partner-requires Inv-search μ-search Inv-walk μ-walk
 live-partner-requires c κs =

@@ -21,7 +21,7 @@ Inv-loop family k columns live i reached₀ a next₀ reached next = Setting fam
 abbrev μ-loop : tie.MeasureT-loop
 μ-loop family k columns live i reached₀ a next₀ reached next = length live - next
 
--- A place of the code. An earlier place is found by its type, with `search`; only a statement counts the places in between.
+-- a place of the code, which `search` finds by its type
 abbrev Place : (tie.InvT-loop → tie.MeasureT-loop → Type 0) → Type 0
 Place P = P Inv-loop μ-loop
 

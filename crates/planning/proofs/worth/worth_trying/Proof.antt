@@ -17,7 +17,7 @@ Inv-loop family k columns live reached₀ i₀ reached i = Reaching family k liv
 abbrev μ-loop : tie.MeasureT-loop
 μ-loop family k columns live reached₀ i₀ reached i = length live - i
 
--- A place of the code. An earlier place is found by its type, with `search`; only a statement counts the places in between.
+-- a place of the code, which `search` finds by its type
 abbrev Place : (tie.InvT-loop → tie.MeasureT-loop → Type 0) → Type 0
 Place P = P Inv-loop μ-loop
 
@@ -29,7 +29,7 @@ returns c =
     rw (lt-ltb (nodeCount (e .args .family) (e .args .k) / 5) (length (e .args .live .now)) (omega (arith, n .node-count .ensures)))
 
 set-thirds-requires : tie.Need-set-thirds-requires Inv-loop μ-loop
-set-thirds-requires c κs = let e : Place tie.Start = search in (e .pre .0, (e .pre .1, omega arith))
+set-thirds-requires c κs = (search, (search, omega arith))
 
 loop-again : tie.Need-loop-again Inv-loop μ-loop
 loop-again c =
