@@ -2,7 +2,7 @@
 -- blocks are in place.
 -- Assumes nothing.
 use mathlib.Core.Path.{_≡_, sym, _∙_, ap, ap₂}
-use Prim.Native.Nat.{ℕ, _+_, _-_, _^_}
+use Prim.Native.Nat.{ℕ, _+_, _-_, _^_, _<_}
 use lib.Count.{trailingZeros}
 use Rattle.families.specs.Families.{columnOf, nodeOf}
 use Rattle.families.proofs.Laws.{lowBit, short, sources}
@@ -14,89 +14,87 @@ use native.Mathlib.Omega.{arith}
 use Rattle.encoding.proofs.encode_node.Statement.{statement}
 use Rattle.encoding.proofs.encode_node.Tie as tie
 
-low-is : (c : tie.After-lowest-bit) → c .lowest-bit .result ≡ trailingZeros 64 (columnOf (c .before .before .before .args .family) (c .before .before .before .args .k) (c .before .before .before .args .j))
-low-is c = c .lowest-bit .ensures ∙ ap (trailingZeros 64) (c .before .before .before .pre .1)
+-- the node's column, and the entry
+abbrev column : tie.Start → ℕ
+column e = columnOf (e .args .family) (e .args .k) (e .args .j)
 
-bit-is : (c : tie.After-power) → c .power .result ≡ lowBit (columnOf (c .before .before .before .before .args .family) (c .before .before .before .before .args .k) (c .before .before .before .before .args .j))
-bit-is c = c .power .ensures ∙ ap (λ (x : ℕ). 2 ^ x) (low-is (c .before))
+abbrev entry : tie.After-power → tie.Start
+entry c = c .before .before .before .before
 
-rest-is : (c : tie.After-power) → c .before .before .before .before .args .column - c .power .result
-    ≡ columnOf (c .before .before .before .before .args .family) (c .before .before .before .before .args .k) (c .before .before .before .before .args .j)
-    - lowBit (columnOf (c .before .before .before .before .args .family) (c .before .before .before .before .args .k) (c .before .before .before .before .args .j))
-rest-is c = ap₂ _-_ (c .before .before .before .before .pre .1) (bit-is c)
+low-is : (c : tie.After-lowest-bit) → c .lowest-bit .result ≡ trailingZeros 64 (column (c .before .before .before))
+low-is c = let e : tie.Start = search in c .lowest-bit .ensures ∙ ap (trailingZeros 64) (e .pre .1)
+
+bit-is : (c : tie.After-power) → c .power .result ≡ lowBit (column (entry c))
+bit-is c = c .power .ensures ∙ ap (λ (x : ℕ). 2 ^ x) (low-is (search))
+
+rest-is : (c : tie.After-power) → entry c .args .column - c .power .result ≡ column (entry c) - lowBit (column (entry c))
+rest-is c = ap₂ _-_ (entry c .pre .1) (bit-is c)
 
 -- there is more than one bit
-more : (c : tie.Else1) → (columnOf (c .before .before .before .before .before .args .family) (c .before .before .before .before .before .args .k) (c .before .before .before .before .before .args .j)) - lowBit (columnOf (c .before .before .before .before .before .args .family) (c .before .before .before .before .before .args .k) (c .before .before .before .before .before .args .j)) ≡ 0 → ⊥
-more c z = c .if1 .left (rest-is (c .before) ∙ z)
+more : (c : tie.Else1) → let x = column (entry (c .before)) in x - lowBit x ≡ 0 → ⊥
+more c z = c .if1 .left (rest-is (search) ∙ z)
 
-low-node : (c : tie.After-node-of) → c .node-of .result ≡ nodeOf (c .before .before .before .before .before .before .args .family) (c .before .before .before .before .before .before .args .k) (lowBit (columnOf (c .before .before .before .before .before .before .args .family) (c .before .before .before .before .before .before .args .k) (c .before .before .before .before .before .before .args .j)))
-low-node c = c .node-of .ensures ∙ ap (nodeOf (c .before .before .before .before .before .before .args .family) (c .before .before .before .before .before .before .args .k)) (bit-is (c .before .before))
+low-node : (c : tie.After-node-of) → let e = entry (c .before .before) in c .node-of .result ≡ nodeOf (e .args .family) (e .args .k) (lowBit (column e))
+low-node c = let e : tie.Start = search in c .node-of .ensures ∙ ap (nodeOf (e .args .family) (e .args .k)) (bit-is (search))
 
-rest-node : (c : tie.After-node-of2) → c .node-of2 .result ≡ nodeOf (c .before .before .before .before .before .before .before .args .family) (c .before .before .before .before .before .before .before .args .k) ((columnOf (c .before .before .before .before .before .before .before .args .family) (c .before .before .before .before .before .before .before .args .k) (c .before .before .before .before .before .before .before .args .j)) - lowBit (columnOf (c .before .before .before .before .before .before .before .args .family) (c .before .before .before .before .before .before .before .args .k) (c .before .before .before .before .before .before .before .args .j)))
-rest-node c = c .node-of2 .ensures ∙ ap (nodeOf (c .before .before .before .before .before .before .before .args .family) (c .before .before .before .before .before .before .before .args .k)) (rest-is (c .before .before .before))
+rest-node : (c : tie.After-node-of2) → let e = entry (c .before .before .before) in c .node-of2 .result ≡ nodeOf (e .args .family) (e .args .k) (column e - lowBit (column e))
+rest-node c = let e : tie.Start = search in c .node-of2 .ensures ∙ ap (nodeOf (e .args .family) (e .args .k)) (rest-is (search))
 
-power-requires : tie.Need-power-requires
-power-requires c κs =
-    let p = c .before .before .before .pre .0 in
-    omega (arith, low-is c, low-within p, short _ _ (p .range))
+-- its lowest bit is one of k bits
+low-few : (e : tie.Start) → trailingZeros 64 (column e) < 22
+low-few e = let p = e .pre .0 in omega (arith, low-within p, short _ _ (p .range))
 
 sub-rest : tie.Need-sub-rest
-sub-rest c = omega (arith, bit-is c, c .before .before .before .before .pre .1, low-le (c .before .before .before .before .pre .0))
-
-add-copy-between : tie.Need-add-copy-between
-add-copy-between c =
-    let p = c .before .before .before .before .before .pre .0 in
-    omega (arith, low-is (c .before .before), low-within p, short _ _ (p .range))
+sub-rest c = let e : tie.Start = search in omega (arith, bit-is (search), e .pre .1, low-le (e .pre .0))
 
 copy-between-requires : tie.Need-copy-between-requires
 copy-between-requires c κs =
-    let p = c .before .before .before .before .before .before .pre .0 in
-    (rw (low-is (c .before .before .before)) (data-inside p), inside p _ (p .node .first) (omega arith))
+    let e : tie.Start = search in
+    let p = e .pre .0 in
+    (rw (low-is (search)) (data-inside p), inside p _ (p .node .first) (omega arith))
 
 returns : tie.Need-returns
 returns c =
-    let p = c .before .before .before .before .before .before .before .before .before .pre .0 in
-    let g = c .before .before .before .before .before .before .before .before .before .args in
-    c .before .before .copy-between .ensures
+    let e : tie.Start = search in
+    let w : tie.After-copy-between = search in
+    let i : tie.Then1 = search in
+    let g = e .args in
+    w .copy-between .ensures
     ∙ ap (withBlock (g .len) (g .nodes .now) (g .j))
-    (ap (λ (i : ℕ). blockOf (g .len) (g .object .now) (i + 1)) (low-is (c .before .before .before .before .before .before)) ∙ from-data p (sym (rest-is (c .before .before .before .before .before)) ∙ c .before .before .before .before .if1 .taken) ∙ ap (nodeBlock (g .k) (g .len) (g .object .now)) (sym (c .before .before .before .before .before .before .before .before .before .pre .1)))
-
-node-of-requires : tie.Need-node-of-requires
-node-of-requires c κs = c .before .before .before .before .before .pre .0 .range
-
-node-of-requires-2 : tie.Need-node-of-requires-2
-node-of-requires-2 c κs = c .before .before .before .before .before .before .pre .0 .range
+    (ap (λ (i : ℕ). blockOf (g .len) (g .object .now) (i + 1)) (low-is (search)) ∙ from-data (e .pre .0) (sym (rest-is (search)) ∙ i .if1 .taken) ∙ ap (nodeBlock (g .k) (g .len) (g .object .now)) (sym (e .pre .1)))
 
 xor-block-requires : tie.Need-xor-block-requires
 xor-block-requires c κs =
-    let p = c .before .before .before .before .before .before .before .before .pre .0 in
-    let s = sources _ _ _ (p .range) (p .node) (more (c .before .before .before)) in
-    let a = low-node (c .before .before) in
-    let b = rest-node (c .before) in (
+    let e : tie.Start = search in
+    let p = e .pre .0 in
+    let s = sources _ _ _ (p .range) (p .node) (more (search)) in
+    let a = low-node (search) in
+    let b = rest-node (search) in (
       (inside p _ (p .node .first) (omega arith), rw a (inside p _ (s .low .first) (omega (arith, s .low .before))), rw b (inside p _ (s .rest .first) (omega (arith, s .rest .before)))),
       ((λ e. omega (arith, a, e, s .low .before)), (λ e. omega (arith, b, e, s .rest .before))),
     )
 
 returns-2 : tie.Need-returns-2
 returns-2 c =
-    let p = c .before .before .before .before .before .before .before .before .before .before .before .pre .0 in
-    let g = c .before .before .before .before .before .before .before .before .before .before .before .args in
-    c .before .before .xor-block .ensures
-    ∙ ap (withBlock (g .len) (g .nodes .now) (g .j)) (ap₂ (λ (a b : ℕ). xorBytes (blockOf (g .len) (g .nodes .now) a) (blockOf (g .len) (g .nodes .now) b)) (low-node (c .before .before .before .before .before)) (rest-node (c .before .before .before .before)) ∙ from-pair p (more (c .before .before .before .before .before .before)) ∙ ap (nodeBlock (g .k) (g .len) (g .object .now)) (sym (c .before .before .before .before .before .before .before .before .before .before .before .pre .1)))
+    let e : tie.Start = search in
+    let x : tie.After-xor-block = search in
+    let g = e .args in
+    x .xor-block .ensures
+    ∙ ap (withBlock (g .len) (g .nodes .now) (g .j)) (ap₂ (λ (a b : ℕ). xorBytes (blockOf (g .len) (g .nodes .now) a) (blockOf (g .len) (g .nodes .now) b)) (low-node (search)) (rest-node (search)) ∙ from-pair (e .pre .0) (more (search)) ∙ ap (nodeBlock (g .k) (g .len) (g .object .now)) (sym (e .pre .1)))
 
 pub encode-node-spec : {M : Type 1} → statement M
 encode-node-spec =
     tie.close
     (tie.spec
     (λ c κs. search needs)
-    power-requires
+    (λ c κs. omega (arith, low-is (search), low-few (search)))
     sub-rest
-    add-copy-between
+    (λ c. omega (arith, low-is (search), low-few (search)))
     copy-between-requires
     (λ c. search needs)
     returns
-    node-of-requires
-    node-of-requires-2
+    (λ c κs. search)
+    (λ c κs. search)
     xor-block-requires
     (λ c. search needs)
     returns-2)

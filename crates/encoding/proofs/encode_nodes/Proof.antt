@@ -23,64 +23,60 @@ Inv-loop family k len object nodes₀ n columns j₀ nodes j = ((1 ≤ j) × (j 
 abbrev μ-loop : tie.MeasureT-loop
 μ-loop family k len object nodes₀ n columns j₀ nodes j = n + 1 - j
 
+-- a place of the code, which `search` finds by its type
+abbrev Place : (tie.InvT-loop → tie.MeasureT-loop → Type 0) → Type 0
+Place P = P Inv-loop μ-loop
+
 -- the blocks of the nodes before node j are in place
-at-node : (c : tie.In-loop Inv-loop μ-loop)
-    → BeforeNode (c .before .before .before .before .before .before .args .family) (c .before .before .before .before .before .before .args .k) (c .before .before .before .before .before .before .args .len) (c .before .before .before .before .before .before .args .object .now) (c .before .loop .nodes) (c .before .loop .j)
+at-node : (c : Place tie.In-loop) → let t = c .before in let g = t .before .before .before .before .before .args in BeforeNode (g .family) (g .k) (g .len) (g .object .now) (t .loop .nodes) (t .loop .j)
 at-node c =
-    let l = c .before .loop in
-    let p = c .before .before .before .before .before .before .pre in
+    let e : Place tie.Start = search in
+    let n : Place tie.After-node-count = search in
+    let t : Place tie.At-loop = search in
+    let w = t .loop .inv in
     record {
-      range = p .0;
-      node = record { first = l .inv .0 .0; last = omega (arith, c .before .before .before .node-count .ensures) };
-      object-size = p .1 .0;
-      nodes-size = l .inv .1 .0 ∙ p .1 .1;
-      done = l .inv .1 .1;
+      range = search;
+      node = record { first = w .0 .0; last = omega (arith, n .node-count .ensures) };
+      object-size = search;
+      nodes-size = w .1 .0 ∙ e .pre .1 .1;
+      done = w .1 .1;
     }
 
-column-is : (c : tie.In-loop Inv-loop μ-loop) → getD (c .before .before .columns .result) (c .before .loop .j) 0 ≡ columnOf (c .before .before .before .before .before .before .args .family) (c .before .before .before .before .before .before .args .k) (c .before .loop .j)
-column-is c = rw (c .before .before .columns .ensures) (table-at _ _ (c .before .loop .j) (at-node c .range) (at-node c .node))
+j-few : (c : Place tie.In-loop) → c .before .loop .j ≤ 255
+j-few c = let b = at-node c in omega (arith, b .node .last, few _ _ (b .range))
 
-node-count-requires : tie.Need-node-count-requires Inv-loop μ-loop
-node-count-requires c κs = c .before .before .pre .0
-
-columns-requires : tie.Need-columns-requires Inv-loop μ-loop
-columns-requires c κs = c .before .before .before .pre .0
+column-is : (c : Place tie.In-loop) → let t = c .before in let f = t .before in let g = f .before .before .before .before .args in getD (f .columns .result) (t .loop .j) 0 ≡ columnOf (g .family) (g .k) (t .loop .j)
+column-is c =
+    let f : Place tie.After-columns = search in
+    let b = at-node c in
+    rw (f .columns .ensures) (table-at _ _ _ (b .range) (b .node))
 
 loop-holds : tie.Need-loop-holds Inv-loop μ-loop
 unfolding nodeBlocks
-loop-holds c = ((omega arith, omega arith), (refl, rw (zero-mul (c .before .before .before .before .args .len))))
-
-mul-encode-node : tie.Need-mul-encode-node Inv-loop μ-loop
-mul-encode-node c = omega (arith, at-node (c .before) .node .last, few _ _ (at-node (c .before) .range))
-
-array-read-encode-node : tie.Need-array-read-encode-node Inv-loop μ-loop
-array-read-encode-node c = omega (arith, at-node (c .before) .node .last, few _ _ (at-node (c .before) .range))
-
-encode-node-requires : tie.Need-encode-node-requires Inv-loop μ-loop
-encode-node-requires c κs = (at-node (c .before), column-is (c .before))
-
-add-j : tie.Need-add-j Inv-loop μ-loop
-add-j c = omega (arith, at-node (c .before .before .before .before) .node .last, few _ _ (at-node (c .before .before .before .before) .range))
+loop-holds c = let e : Place tie.Start = search in ((omega arith, omega arith), (refl, rw (zero-mul (e .args .len))))
 
 loop-again : tie.Need-loop-again Inv-loop μ-loop
 loop-again c =
-    let l = c .before .before .before .before .before .loop in
-    let g = c .before .before .before .before .before .before .before .before .before .before .args in
-    let b = at-node (c .before .before .before .before) in
+    let e : Place tie.Start = search in
+    let t : Place tie.At-loop = search in
+    let w : Place tie.After-encode-node = search in
+    let g = e .args in
+    let l = t .loop in
+    let b = at-node (search) in
     let p : l .j + 1 - 1 ≡ l .j = omega arith in
-    let e = c .before .before .encode-node .ensures ∙ ap (λ (x : ℕ). withBlock (g .len) (l .nodes) (l .j) (nodeBlock (g .k) (g .len) (g .object .now) x)) (column-is (c .before .before .before .before)) in
-    ((omega arith, omega arith), (search needs, rw (p, e) (one-more (g .family) (g .k) (g .len) (g .object .now) (b .object-size) (l .nodes) (l .j) (inside b (l .j) (b .node .first) (omega arith)) (b .done))))
-
-same-length : tie.Need-same-length Inv-loop μ-loop
-same-length c = c .before .loop .inv .1 .0
+    let m = w .encode-node .ensures ∙ ap (λ (x : ℕ). withBlock (g .len) (l .nodes) (l .j) (nodeBlock (g .k) (g .len) (g .object .now) x)) (column-is (search)) in
+    ((omega arith, omega arith), (search needs, rw (p, m) (one-more (g .family) (g .k) (g .len) (g .object .now) (b .object-size) (l .nodes) (l .j) (inside b (l .j) (b .node .first) (omega arith)) (b .done))))
 
 returns : tie.Need-returns Inv-loop μ-loop
 unfolding nodesBuffer
 returns c =
-    let l = c .before .loop in
-    let g = c .before .before .before .before .before .before .args in
-    let e : l .j - 1 ≡ nodeCount (g .family) (g .k) = omega (arith, c .before .before .before .node-count .ensures) in
-    sym (take-all ((l .j - 1) * g .len) (l .nodes) (rw e (omega (arith, l .inv .1 .0, c .before .before .before .before .before .before .pre .1 .1)))) ∙ l .inv .1 .1 ∙ ap (nodeBlocks (g .family) (g .k) (g .len) (g .object .now)) e
+    let e : Place tie.Start = search in
+    let n : Place tie.After-node-count = search in
+    let t : Place tie.At-loop = search in
+    let g = e .args in
+    let l = t .loop in
+    let m : l .j - 1 ≡ nodeCount (g .family) (g .k) = omega (arith, n .node-count .ensures) in
+    sym (take-all ((l .j - 1) * g .len) (l .nodes) (rw m (omega (arith, l .inv .1 .0, e .pre .1 .1)))) ∙ l .inv .1 .1 ∙ ap (nodeBlocks (g .family) (g .k) (g .len) (g .object .now)) m
 
 pub encode-nodes-spec : {M : Type 1} → statement M
 encode-nodes-spec =
@@ -88,14 +84,14 @@ encode-nodes-spec =
     (tie.spec
     Inv-loop
     μ-loop
-    node-count-requires
-    columns-requires
+    (λ c κs. search)
+    (λ c κs. search)
     loop-holds
-    mul-encode-node
-    array-read-encode-node
-    encode-node-requires
-    add-j
+    (λ c. omega (arith, j-few (search)))
+    (λ c. omega (arith, j-few (search)))
+    (λ c κs. (at-node (search), column-is (search)))
+    (λ c. omega (arith, j-few (search)))
     (λ c. omega arith)
     loop-again
-    same-length
+    (λ c. search)
     returns)
