@@ -24,24 +24,27 @@ unfolding thoseFrom
 loop-holds c = (omega arith, refl)
 
 add-count : tie.Need-add-count Inv-loop μ-loop
-add-count c = omega (arith, live-nodes-few (now (c .before .before .before .before .args .marks)) (c .before .before .before .loop .j))
+add-count c =
+    let e : tie.Start Inv-loop μ-loop = search in
+    let t : tie.At-loop Inv-loop μ-loop = search in
+    omega (arith, live-nodes-few (now (e .args .marks)) (t .loop .j))
 
 loop-again : tie.Need-loop-again Inv-loop μ-loop
 loop-again c =
-    let m = now (c .before .before .before .before .args .marks) in
-    let l = c .before .before .before .loop in
-    (omega arith, omega (arith, ap length (those-more (isLive m) (l .j) (c .if1 .taken)) ∙ length-append (liveNodes m (l .j)) _))
+    let e : tie.Start Inv-loop μ-loop = search in
+    let t : tie.At-loop Inv-loop μ-loop = search in
+    let m = now (e .args .marks) in
+    (omega arith, omega (arith, ap length (those-more (isLive m) (t .loop .j) (c .if1 .taken)) ∙ length-append (liveNodes m (t .loop .j)) _))
 
 loop-again-2 : tie.Need-loop-again-2 Inv-loop μ-loop
-loop-again-2 c =
-    let l = c .before .before .before .loop in
-    (omega arith, l .inv .1 ∙ sym (ap length (those-same _ (l .j) (c .if1 .left))))
+loop-again-2 c = let t : tie.At-loop Inv-loop μ-loop = search in (omega arith, t .loop .inv .1 ∙ sym (ap length (those-same _ (t .loop .j) (c .if1 .left))))
 
 returns : tie.Need-returns Inv-loop μ-loop
 returns c =
-    let g = c .before .before .args in
-    let e : c .before .loop .j ≡ g .n = omega arith in
-    c .before .loop .inv .1 ∙ ap (λ (j : ℕ). length (liveNodes (now (g .marks)) j)) e
+    let e : tie.Start Inv-loop μ-loop = search in
+    let t : tie.At-loop Inv-loop μ-loop = search in
+    let m : t .loop .j ≡ e .args .n = omega arith in
+    t .loop .inv .1 ∙ ap (λ (j : ℕ). length (liveNodes (now (e .args .marks)) j)) m
 
 pub count-live-spec : {M : Type 1} → statement M
 count-live-spec =

@@ -20,18 +20,20 @@ abbrev μ-loop : tie.MeasureT-loop
 
 returns : tie.Need-returns Inv-loop μ-loop
 returns c =
-    let l = c .before .before .before .before .loop in
-    let s = l .inv .1 ∙ rises-step (now (c .before .before .before .before .before .args .list)) (l .i) (omega arith) in
+    let t : tie.At-loop Inv-loop μ-loop = search in
+    let e : tie.Start Inv-loop μ-loop = search in
+    let s = t .loop .inv .1 ∙ rises-step (now (e .args .list)) (t .loop .i) (omega arith) in
     sym (s ∙ simp (le-ltb _ _ (c .if1 .taken)))
 
 loop-again : tie.Need-loop-again Inv-loop μ-loop
 loop-again c =
-    let l = c .before .before .before .before .loop in
-    let s = l .inv .1 ∙ rises-step (now (c .before .before .before .before .before .args .list)) (l .i) (omega arith) in
+    let t : tie.At-loop Inv-loop μ-loop = search in
+    let e : tie.Start Inv-loop μ-loop = search in
+    let s = t .loop .inv .1 ∙ rises-step (now (e .args .list)) (t .loop .i) (omega arith) in
     (omega arith, s ∙ simp (lt-ltb _ _ (c .if1 .left)))
 
 returns-2 : tie.Need-returns-2 Inv-loop μ-loop
-returns-2 c = sym (c .before .loop .inv .1 ∙ rises-end _ _ (c .loop-test .left))
+returns-2 c = let t : tie.At-loop Inv-loop μ-loop = search in sym (t .loop .inv .1 ∙ rises-end _ _ (c .loop-test .left))
 
 pub is-rising-spec : {M : Type 1} → statement M
 is-rising-spec =

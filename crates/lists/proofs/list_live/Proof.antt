@@ -26,29 +26,35 @@ unfolding thoseFrom
 loop-holds c = ((omega arith, refl), refl)
 
 array-write-list : tie.Need-array-write-list Inv-loop μ-loop
-array-write-list c = omega (arith, live-nodes-few (now (c .before .before .before .before .args .marks)) (c .before .before .before .loop .j))
+array-write-list c =
+    let e : tie.Start Inv-loop μ-loop = search in
+    let t : tie.At-loop Inv-loop μ-loop = search in
+    omega (arith, live-nodes-few (now (e .args .marks)) (t .loop .j))
 
 loop-again : tie.Need-loop-again Inv-loop μ-loop
 loop-again c =
-    let m = now (c .before .before .before .before .args .marks) in
-    let l = c .before .before .before .loop in
-    let nodes = liveNodes m (l .j) in
-    let more = those-more (isLive m) (l .j) (c .if1 .taken) in (
+    let e : tie.Start Inv-loop μ-loop = search in
+    let t : tie.At-loop Inv-loop μ-loop = search in
+    let m = now (e .args .marks) in
+    let nodes = liveNodes m (t .loop .j) in
+    let more = those-more (isLive m) (t .loop .j) (c .if1 .taken) in (
       (omega arith, omega (arith, ap length more ∙ length-append nodes _)),
-      rw (l .inv .1, l .inv .0 .1, more) (ap (set (padded nodes) (length nodes)) (mod-eq-of-lt (omega arith)) ∙ pad-more nodes (l .j + 1) (omega (arith, array-write-list c))),
+      rw (t .loop .inv .1, t .loop .inv .0 .1, more) (ap (set (padded nodes) (length nodes)) (mod-eq-of-lt (omega arith)) ∙ pad-more nodes (t .loop .j + 1) (omega (arith, array-write-list c))),
     )
 
 loop-again-2 : tie.Need-loop-again-2 Inv-loop μ-loop
 loop-again-2 c =
-    let l = c .before .before .before .loop in
-    let same = those-same (isLive (now (c .before .before .before .before .args .marks))) (l .j) (c .if1 .left) in
-    ((omega arith, l .inv .0 .1 ∙ sym (ap length same)), l .inv .1 ∙ sym (ap padded same))
+    let t : tie.At-loop Inv-loop μ-loop = search in
+    let e : tie.Start Inv-loop μ-loop = search in
+    let same = those-same (isLive (now (e .args .marks))) (t .loop .j) (c .if1 .left) in
+    ((omega arith, t .loop .inv .0 .1 ∙ sym (ap length same)), t .loop .inv .1 ∙ sym (ap padded same))
 
 returns : tie.Need-returns Inv-loop μ-loop
 returns c =
-    let g = c .before .before .args in
-    let e : c .before .loop .j ≡ g .n = omega arith in
-    c .before .loop .inv .1 ∙ ap (λ (j : ℕ). padded (liveNodes (now (g .marks)) j)) e
+    let e : tie.Start Inv-loop μ-loop = search in
+    let t : tie.At-loop Inv-loop μ-loop = search in
+    let m : t .loop .j ≡ e .args .n = omega arith in
+    t .loop .inv .1 ∙ ap (λ (j : ℕ). padded (liveNodes (now (e .args .marks)) j)) m
 
 pub list-live-spec : {M : Type 1} → statement M
 list-live-spec =

@@ -12,24 +12,31 @@ use Rattle.lists.proofs.list_refusal.Tie as tie
 returns : tie.Need-returns
 unfolding firstMet
 returns c =
-    let g = c .before .before .before .args in
-    let o : someOutside (g .n) (g .list .now) ≡ true = sym (c .before .some-outside .ensures) ∙ c .if1 .taken in
+    let e : tie.Start = search in
+    let s : tie.After-some-outside = search in
+    let o : someOutside (e .args .n) (e .args .list .now) ≡ true = sym (s .some-outside .ensures) ∙ c .if1 .taken in
     rw o
 
 returns-2 : tie.Need-returns-2
 unfolding firstMet
 returns-2 c =
-    let g = c .before .before .before .before .before .args in
-    let o : someOutside (g .n) (g .list .now) ≡ false = sym (c .before .before .before .some-outside .ensures) ∙ c .before .before .if1 .left in
-    let r : rises (g .list .now) ≡ false = sym (c .before .is-rising .ensures) ∙ not-true _ (c .if2 .taken) in
+    let e : tie.Start = search in
+    let s : tie.After-some-outside = search in
+    let m : tie.Else1 = search in
+    let i : tie.After-is-rising = search in
+    let o : someOutside (e .args .n) (e .args .list .now) ≡ false = sym (s .some-outside .ensures) ∙ m .if1 .left in
+    let r : rises (e .args .list .now) ≡ false = sym (i .is-rising .ensures) ∙ not-true _ (c .if2 .taken) in
     rw (o, r)
 
 returns-3 : tie.Need-returns-3
 unfolding firstMet
 returns-3 c =
-    let g = c .before .before .before .before .before .args in
-    let o : someOutside (g .n) (g .list .now) ≡ false = sym (c .before .before .before .some-outside .ensures) ∙ c .before .before .if1 .left in
-    let r : rises (g .list .now) ≡ true = sym (c .before .is-rising .ensures) ∙ not-false _ (c .if2 .left) in
+    let e : tie.Start = search in
+    let s : tie.After-some-outside = search in
+    let m : tie.Else1 = search in
+    let i : tie.After-is-rising = search in
+    let o : someOutside (e .args .n) (e .args .list .now) ≡ false = sym (s .some-outside .ensures) ∙ m .if1 .left in
+    let r : rises (e .args .list .now) ≡ true = sym (i .is-rising .ensures) ∙ not-false _ (c .if2 .left) in
     rw (o, r)
 
 pub list-refusal-spec : {M : Type 1} → statement M

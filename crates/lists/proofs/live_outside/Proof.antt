@@ -20,28 +20,26 @@ abbrev μ-loop : tie.MeasureT-loop
 
 returns : tie.Need-returns Inv-loop μ-loop
 unfolding liveOutside
-returns c = let live : isLive (c .before .before .args .marks .now) 0 ≡ true = c .if1 .taken in simp live
+returns c =
+    let e : tie.Start Inv-loop μ-loop = search in
+    let live : isLive (e .args .marks .now) 0 ≡ true = c .if1 .taken in simp live
 
 loop-holds : tie.Need-loop-holds Inv-loop μ-loop
 unfolding liveOutside
 loop-holds c =
-    let g = c .before .before .args in
-    let e : 255 - g .n ≡ 256 - (g .n + 1) = omega arith in
-    let missing : isLive (now (g .marks)) 0 ≡ false = c .if1 .left in
-    simp missing (ap (someFrom (isLive (now (g .marks))) (g .n + 1)) e)
+    let e : tie.Start Inv-loop μ-loop = search in
+    let m : 255 - e .args .n ≡ 256 - (e .args .n + 1) = omega arith in
+    let missing : isLive (now (e .args .marks)) 0 ≡ false = c .if1 .left in
+    simp missing (ap (someFrom (isLive (now (e .args .marks))) (e .args .n + 1)) m)
 
 returns-2 : tie.Need-returns-2 Inv-loop μ-loop
-returns-2 c =
-    let l = c .before .before .before .loop in
-    sym (l .inv ∙ some-step _ 256 (l .j) (omega arith) ∙ simp (c .if2 .taken))
+returns-2 c = let t : tie.At-loop Inv-loop μ-loop = search in sym (t .loop .inv ∙ some-step _ 256 (t .loop .j) (omega arith) ∙ simp (c .if2 .taken))
 
 loop-again : tie.Need-loop-again Inv-loop μ-loop
-loop-again c =
-    let l = c .before .before .before .loop in
-    l .inv ∙ some-step _ 256 (l .j) (omega arith) ∙ simp (c .if2 .left)
+loop-again c = let t : tie.At-loop Inv-loop μ-loop = search in t .loop .inv ∙ some-step _ 256 (t .loop .j) (omega arith) ∙ simp (c .if2 .left)
 
 returns-3 : tie.Need-returns-3 Inv-loop μ-loop
-returns-3 c = sym (c .before .loop .inv ∙ some-end _ 256 _ (c .loop-test .left))
+returns-3 c = let t : tie.At-loop Inv-loop μ-loop = search in sym (t .loop .inv ∙ some-end _ 256 _ (c .loop-test .left))
 
 pub live-outside-spec : {M : Type 1} → statement M
 live-outside-spec =

@@ -18,16 +18,20 @@ abbrev μ-loop : tie.MeasureT-loop
 μ-loop list marks₀ i₀ marks i = length list - i
 
 array-write-marks : tie.Need-array-write-marks Inv-loop μ-loop
-array-write-marks c = omega (arith, c .wide .ensures, c .before .shared-slice-known2 .given (c .before .before .before .loop .i))
+array-write-marks c =
+    let s : tie.After-shared-slice-known2 Inv-loop μ-loop = search in
+    let t : tie.At-loop Inv-loop μ-loop = search in
+    omega (arith, c .wide .ensures, s .shared-slice-known2 .given (t .loop .i))
 
 loop-again : tie.Need-loop-again Inv-loop μ-loop
 loop-again c =
-    let l = c .before .before .before .loop in
-    let s = l .inv .0 ∙ set-step (now (c .before .before .before .before .before .args .list)) (l .i) (omega arith) (l .marks) in
-    (s ∙ rw (c .wide .ensures), simp length-set (l .inv .1))
+    let t : tie.At-loop Inv-loop μ-loop = search in
+    let e : tie.Start Inv-loop μ-loop = search in
+    let s = t .loop .inv .0 ∙ set-step (now (e .args .list)) (t .loop .i) (omega arith) (t .loop .marks) in
+    (s ∙ rw (c .wide .ensures), simp length-set (t .loop .inv .1))
 
 returns : tie.Need-returns Inv-loop μ-loop
-returns c = sym (c .before .loop .inv .0 ∙ set-end _ _ (c .loop-test .left) _)
+returns c = let t : tie.At-loop Inv-loop μ-loop = search in sym (t .loop .inv .0 ∙ set-end _ _ (c .loop-test .left) _)
 
 pub marks-of-list-spec : {M : Type 1} → statement M
 marks-of-list-spec =

@@ -21,20 +21,25 @@ abbrev μ-loop : tie.MeasureT-loop
 
 returns : tie.Need-returns Inv-loop μ-loop
 returns c =
-    let g = c .before .before .before .before .before .before .args in
-    let l = c .before .before .before .before .loop in
-    let s = place-step (now (g .list)) (l .i) (omega arith) (g .j) in
-    omega (arith, simp (eq-eqb (getD (now (g .list)) (l .i) 0) (g .j) (omega (arith, c .before .wide .ensures))) at s)
+    let e : tie.Start Inv-loop μ-loop = search in
+    let t : tie.At-loop Inv-loop μ-loop = search in
+    let w : tie.After-wide Inv-loop μ-loop = search in
+    let s = place-step (now (e .args .list)) (t .loop .i) (omega arith) (e .args .j) in
+    omega (arith, simp (eq-eqb (getD (now (e .args .list)) (t .loop .i) 0) (e .args .j) (omega (arith, w .wide .ensures))) at s)
 
 loop-again : tie.Need-loop-again Inv-loop μ-loop
 loop-again c =
-    let g = c .before .before .before .before .before .before .args in
-    let l = c .before .before .before .before .loop in
-    let s = place-step (now (g .list)) (l .i) (omega arith) (g .j) in
-    omega (arith, simp (ne-eqb (getD (now (g .list)) (l .i) 0) (g .j) (λ e. c .if1 .left (c .before .wide .ensures ∙ e))) at s)
+    let e : tie.Start Inv-loop μ-loop = search in
+    let t : tie.At-loop Inv-loop μ-loop = search in
+    let w : tie.After-wide Inv-loop μ-loop = search in
+    let s = place-step (now (e .args .list)) (t .loop .i) (omega arith) (e .args .j) in
+    omega (arith, simp (ne-eqb (getD (now (e .args .list)) (t .loop .i) 0) (e .args .j) (λ e. c .if1 .left (w .wide .ensures ∙ e))) at s)
 
 returns-2 : tie.Need-returns-2 Inv-loop μ-loop
-returns-2 c = omega (arith, place-end (now (c .before .before .before .args .list)) (c .before .loop .i) (c .loop-test .left) (c .before .before .before .args .j))
+returns-2 c =
+    let e : tie.Start Inv-loop μ-loop = search in
+    let t : tie.At-loop Inv-loop μ-loop = search in
+    omega (arith, place-end (now (e .args .list)) (t .loop .i) (c .loop-test .left) (e .args .j))
 
 pub place-in-spec : {M : Type 1} → statement M
 place-in-spec =

@@ -18,24 +18,29 @@ abbrev μ-loop : tie.MeasureT-loop
 μ-loop marks list i₀ i = length list - i
 
 element-copy-out-if1 : tie.Need-element-copy-out-if1 Inv-loop μ-loop
-element-copy-out-if1 c = omega (arith, c .wide .ensures, c .before .shared-slice-known2 .given (c .before .before .before .loop .i))
+element-copy-out-if1 c =
+    let s : tie.After-shared-slice-known2 Inv-loop μ-loop = search in
+    let t : tie.At-loop Inv-loop μ-loop = search in
+    omega (arith, c .wide .ensures, s .shared-slice-known2 .given (t .loop .i))
 
 returns : tie.Need-returns Inv-loop μ-loop
 returns c =
-    let g = c .before .before .before .before .before .before .before .args in
-    let l = c .before .before .before .before .before .loop in
-    let t = rw (c .before .before .wide .ensures) at (c .if1 .taken) in
-    sym (l .inv ∙ missing-step (now (g .list)) (l .i) (omega arith) (now (g .marks)) ∙ simp t)
+    let e : tie.Start Inv-loop μ-loop = search in
+    let t : tie.At-loop Inv-loop μ-loop = search in
+    let w : tie.After-wide Inv-loop μ-loop = search in
+    let i = rw (w .wide .ensures) at (c .if1 .taken) in
+    sym (t .loop .inv ∙ missing-step (now (e .args .list)) (t .loop .i) (omega arith) (now (e .args .marks)) ∙ simp i)
 
 loop-again : tie.Need-loop-again Inv-loop μ-loop
 loop-again c =
-    let g = c .before .before .before .before .before .before .before .args in
-    let l = c .before .before .before .before .before .loop in
-    let t = rw (c .before .before .wide .ensures) at (c .if1 .left) in
-    l .inv ∙ missing-step (now (g .list)) (l .i) (omega arith) (now (g .marks)) ∙ simp t
+    let e : tie.Start Inv-loop μ-loop = search in
+    let t : tie.At-loop Inv-loop μ-loop = search in
+    let w : tie.After-wide Inv-loop μ-loop = search in
+    let i = rw (w .wide .ensures) at (c .if1 .left) in
+    t .loop .inv ∙ missing-step (now (e .args .list)) (t .loop .i) (omega arith) (now (e .args .marks)) ∙ simp i
 
 returns-2 : tie.Need-returns-2 Inv-loop μ-loop
-returns-2 c = sym (c .before .loop .inv ∙ missing-end _ _ (c .loop-test .left) _)
+returns-2 c = let t : tie.At-loop Inv-loop μ-loop = search in sym (t .loop .inv ∙ missing-end _ _ (c .loop-test .left) _)
 
 pub some-missing-spec : {M : Type 1} → statement M
 some-missing-spec =

@@ -20,24 +20,27 @@ abbrev μ-loop : tie.MeasureT-loop
 
 returns : tie.Need-returns Inv-loop μ-loop
 returns c =
-    let g = c .before .before .before .before .before .before .args in
-    let l = c .before .before .before .before .loop in
-    sym (l .inv ∙ outside-step (now (g .list)) (l .i) (omega arith) (g .n) ∙ simp (outside-low 1 (g .n) (getD (now (g .list)) (l .i) 0) (omega (arith, c .before .wide .ensures))))
+    let e : tie.Start Inv-loop μ-loop = search in
+    let t : tie.At-loop Inv-loop μ-loop = search in
+    let w : tie.After-wide Inv-loop μ-loop = search in
+    sym (t .loop .inv ∙ outside-step (now (e .args .list)) (t .loop .i) (omega arith) (e .args .n) ∙ simp (outside-low 1 (e .args .n) (getD (now (e .args .list)) (t .loop .i) 0) (omega (arith, w .wide .ensures))))
 
 returns-2 : tie.Need-returns-2 Inv-loop μ-loop
 returns-2 c =
-    let g = c .before .before .before .before .before .before .before .args in
-    let l = c .before .before .before .before .before .loop in
-    sym (l .inv ∙ outside-step (now (g .list)) (l .i) (omega arith) (g .n) ∙ simp (outside-high 1 (g .n) (getD (now (g .list)) (l .i) 0) (omega (arith, c .before .before .wide .ensures))))
+    let e : tie.Start Inv-loop μ-loop = search in
+    let t : tie.At-loop Inv-loop μ-loop = search in
+    let w : tie.After-wide Inv-loop μ-loop = search in
+    sym (t .loop .inv ∙ outside-step (now (e .args .list)) (t .loop .i) (omega arith) (e .args .n) ∙ simp (outside-high 1 (e .args .n) (getD (now (e .args .list)) (t .loop .i) 0) (omega (arith, w .wide .ensures))))
 
 loop-again : tie.Need-loop-again Inv-loop μ-loop
 loop-again c =
-    let g = c .before .before .before .before .before .before .before .args in
-    let l = c .before .before .before .before .before .loop in
-    l .inv ∙ outside-step (now (g .list)) (l .i) (omega arith) (g .n) ∙ simp (outside-no 1 (g .n) (getD (now (g .list)) (l .i) 0) (omega (arith, c .before .before .wide .ensures)) (omega (arith, c .before .before .wide .ensures)))
+    let e : tie.Start Inv-loop μ-loop = search in
+    let t : tie.At-loop Inv-loop μ-loop = search in
+    let w : tie.After-wide Inv-loop μ-loop = search in
+    t .loop .inv ∙ outside-step (now (e .args .list)) (t .loop .i) (omega arith) (e .args .n) ∙ simp (outside-no 1 (e .args .n) (getD (now (e .args .list)) (t .loop .i) 0) (omega (arith, w .wide .ensures)) (omega (arith, w .wide .ensures)))
 
 returns-3 : tie.Need-returns-3 Inv-loop μ-loop
-returns-3 c = sym (c .before .loop .inv ∙ outside-end _ _ (c .loop-test .left) _)
+returns-3 c = let t : tie.At-loop Inv-loop μ-loop = search in sym (t .loop .inv ∙ outside-end _ _ (c .loop-test .left) _)
 
 pub some-outside-spec : {M : Type 1} → statement M
 some-outside-spec =
