@@ -64,13 +64,6 @@ count-live-requires c κs =
     let n : Place tie.After-node-count = search in
     omega (arith, n .node-count .ensures, few _ _ (t .loop .inv .range))
 
-sub-t24 : tie.Need-sub-t24 Inv-loop μ-loop
-sub-t24 c =
-    let t : Place tie.At-loop = search in
-    let n : Place tie.After-node-count = search in
-    let l : Place tie.After-count-live = search in
-    omega (arith, l .count-live .ensures, live-nodes-few (t .loop .marks) (n .node-count .result))
-
 same-length : tie.Need-same-length Inv-loop μ-loop
 same-length c =
     let t : Place tie.At-loop = search in
@@ -104,6 +97,6 @@ make-plan-spec =
     loop-less
     loop-again
     count-live-requires
-    sub-t24
+    (λ c. let t : Place tie.At-loop = search in let l : Place tie.After-count-live = search in rw (l .count-live .ensures) (live-nodes-few (t .loop .marks) _))
     same-length
     returns)
