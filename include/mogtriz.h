@@ -1,21 +1,31 @@
 /*
- * Mogtriz: data blocks spread over nodes, each node the bytewise XOR of some of them.
+ * Mogtriz: data blocks spread over nodes, each node the bytewise XOR of some of them. For C99 and C++11, and what came after.
  *
  * An object is k data blocks of `len` bytes, block 1 first. Nodes have numbers 1 to n; node j's block is the part of
  * the nodes buffer from (j - 1) * len up to j * len. A node's column is a number of k bits: bit i - 1 is set when data
  * block i is in that node.
  *
- * family  code         k        n
- * 1       simplex      2 to 8   2^k - 1
- * 2       weight-two   2 to 22  k(k + 1) / 2
- * 3       tetrahedron  4        14
- *
+ * Which node has which column:
+ *   simplex      node j has column j
+ *   weight-two   node i, from 1 to k, is data block i; then come the pairs of data blocks i < j, by i and then by j: the node of
+ *                the pair is k + (i - 1)(2k - i) / 2 + (j - i). With k 3, nodes 4, 5 and 6 are the pairs 1 2, 1 3 and 2 3
+ *   tetrahedron  the columns of nodes 1 to 14 are 1 2 4 8 5 3 6 7 10 12 14 9 11 13
  * Data block i alone is the node with column 1 << (i - 1): in simplex node 2^(i - 1), in the two others node i.
  *
  * Every number is taken as it comes: one that is out of range is refused, however large, and never cut.
  *
- * In every call each pointer has to be to as many bytes as its length says, and may not be null, not even with a length
- * of 0; and a buffer that is written may not overlap another of the call.
+ * Buffers. Each pointer has to be to as many bytes as its length says, at any alignment. With a length of 0 it may be null: it is
+ * an empty buffer then. Null with a length above 0 is the caller's fault, and so is a buffer that is written and overlaps another of
+ * the call: nothing that is said here holds then. Such a call can answer 0 with wrong bytes, as encode does where the object lies at
+ * the front of the nodes buffer. A program that defines MOGTRIZ_CHECK_BUFFERS before it includes this header has both faults end it
+ * by `assert`, unless NDEBUG is defined.
+ *
+ * Addresses and symbols. A call by name goes through a function in this header, which sees to empty buffers. A name with no bracket
+ * after it, as in `&mogtriz_run`, is the library's own function, and so is the symbol for another language: these take no null
+ * pointer, not even with a length of 0.
+ *
+ * No call allocates, and none keeps anything once it has ended: threads may make calls at once, as long as what one of them writes is
+ * in no buffer of another.
  */
 #ifndef MOGTRIZ_H
 #define MOGTRIZ_H
@@ -23,8 +33,8 @@
 #include <stddef.h>
 #include <stdint.h>
 
-#ifdef __cplusplus
-extern "C" {
+#ifdef MOGTRIZ_CHECK_BUFFERS
+#include <assert.h>
 #endif
 
 /*
@@ -33,19 +43,97 @@ extern "C" {
  */
 #define MOGTRIZ_VERSION 1
 
+/* The families, with the range of k and n. */
+#define MOGTRIZ_SIMPLEX 1 /* n is 2^k - 1 */
+#define MOGTRIZ_SIMPLEX_LEAST_K 2
+#define MOGTRIZ_SIMPLEX_MOST_K 8
+#define MOGTRIZ_WEIGHT_TWO 2 /* n is k(k + 1) / 2 */
+#define MOGTRIZ_WEIGHT_TWO_LEAST_K 2
+#define MOGTRIZ_WEIGHT_TWO_MOST_K 22
+#define MOGTRIZ_TETRAHEDRON 3 /* n is 14 */
+#define MOGTRIZ_TETRAHEDRON_LEAST_K 4
+#define MOGTRIZ_TETRAHEDRON_MOST_K 4
+
+/* The most that len, and over all families k and n, can be; the least len is 1. */
+#define MOGTRIZ_MOST_LEN 4096
+#define MOGTRIZ_MOST_K MOGTRIZ_WEIGHT_TWO_MOST_K
+#define MOGTRIZ_MOST_NODES 255
+
+/* Bytes of a box before its node numbers, and of a step in a plan. */
+#define MOGTRIZ_BOX_HEAD 8
+#define MOGTRIZ_STEP_LEN 4
+
+/* Room in bytes for any plan; for any object, nodes buffer and box. For one family, k and len see mogtriz_nodes_len and the like. */
+#define MOGTRIZ_PLAN_ROOM (MOGTRIZ_STEP_LEN * MOGTRIZ_MOST_NODES)
+#define MOGTRIZ_MOST_OBJECT_LEN (MOGTRIZ_MOST_K * MOGTRIZ_MOST_LEN)
+#define MOGTRIZ_MOST_NODES_LEN (MOGTRIZ_MOST_NODES * MOGTRIZ_MOST_LEN)
+#define MOGTRIZ_MOST_BOX_LEN (MOGTRIZ_BOX_HEAD + MOGTRIZ_MOST_NODES + MOGTRIZ_MOST_NODES_LEN)
+
+/*
+ * Bytes of stack that are enough for any call, with its arguments and its answer. Measured on x86-64 and not proved: a run, called by
+ * a program compiled without optimisation, touched 11784, and no other call as many. What a loader needs to bind memcpy and memset
+ * at their first call, and what a sanitizer adds, comes on top.
+ */
+#define MOGTRIZ_MOST_STACK 12288
+
+/*
+ * Why a call is turned away: ROW(number, name, text) for each reason. A call gives the first that is met in the order of its checks,
+ * as said beside it, and writes nothing then. 1 to 10 are due to what is handed in, 11 to 14 to what the session or the box says.
+ */
+#define MOGTRIZ_REFUSALS(ROW)                                                                                                 \
+    ROW(1, MOGTRIZ_REFUSED_FAMILY_UNKNOWN, "the family is not 1, 2 or 3")                                                     \
+    ROW(2, MOGTRIZ_REFUSED_K_OUT_OF_RANGE, "k is outside its family's range")                                                 \
+    ROW(3, MOGTRIZ_REFUSED_LEN_OUT_OF_RANGE, "the block length is 0 or above " MOGTRIZ_DIGITS(MOGTRIZ_MOST_LEN))              \
+    ROW(4, MOGTRIZ_REFUSED_NO_SUCH_NODE, "a node number is 0 or above the last node's")                                       \
+    ROW(5, MOGTRIZ_REFUSED_NOT_RISING, "a list of nodes does not strictly rise")                                              \
+    ROW(6, MOGTRIZ_REFUSED_BUFFER_LENGTH, "a buffer is not of the length that the call needs")                                \
+    ROW(7, MOGTRIZ_REFUSED_BOX_LENGTH,                                                                                        \
+        "the box is under " MOGTRIZ_DIGITS(MOGTRIZ_BOX_HEAD) " bytes or not as long as its contents say")                     \
+    ROW(8, MOGTRIZ_REFUSED_NOT_ZERO, "a byte of 5 to 7 of the box is not zero")                                               \
+    ROW(9, MOGTRIZ_REFUSED_TOO_MANY_NODES, "the box counts more nodes than there are")                                        \
+    ROW(10, MOGTRIZ_REFUSED_NOT_RELATED, "the three nodes of the step are not related")                                       \
+    ROW(11, MOGTRIZ_REFUSED_ALREADY_LIVE, "the node to repair is live")                                                       \
+    ROW(12, MOGTRIZ_REFUSED_NODE_MISSING, "a node to be read is missing")                                                     \
+    ROW(13, MOGTRIZ_REFUSED_NO_SUCH_SESSION, "no start gives this session")                                                   \
+    ROW(14, MOGTRIZ_REFUSED_BLOCK_MISSING, "the node of a data block is missing")
+
+/* A constant's digits as text. */
+#define MOGTRIZ_DIGITS(constant) MOGTRIZ_QUOTED(constant)
+#define MOGTRIZ_QUOTED(digits) #digits
+
+enum {
+    MOGTRIZ_SERVED = 0,
+#define MOGTRIZ_NUMBERED(number, name, text) name = number,
+    MOGTRIZ_REFUSALS(MOGTRIZ_NUMBERED)
+#undef MOGTRIZ_NUMBERED
+};
+
+/* A call whose answer has a refusal's number: the compiler warns where it is not looked at. */
+#if (defined(__cplusplus) && __cplusplus >= 201703L) || (defined(__STDC_VERSION__) && __STDC_VERSION__ >= 202311L)
+#define MOGTRIZ_ANSWERS [[nodiscard]]
+#elif defined(__GNUC__)
+#define MOGTRIZ_ANSWERS __attribute__((warn_unused_result))
+#else
+#define MOGTRIZ_ANSWERS
+#endif
+
+/* The library's own function of such a call, which takes no null pointer. */
+#ifdef __GNUC__
+#define MOGTRIZ_CALL MOGTRIZ_ANSWERS __attribute__((nonnull))
+#else
+#define MOGTRIZ_CALL MOGTRIZ_ANSWERS
+#endif
+
+#ifdef __cplusplus
+extern "C" {
+#endif
+
 /* The library's version. */
 size_t mogtriz_version(void);
 
-/*
- * Fills the nodes buffer from an object, and gives 0. Otherwise it writes nothing and gives the number of the first of
- * these that is met:
- *   1  the family is not 1, 2 or 3
- *   2  k is outside its family's range
- *   3  len is 0 or above 4096
- *   6  object_len is not k * len, or nodes_len is not n * len
- */
-uint8_t mogtriz_encode(size_t family, size_t k, size_t len, const uint8_t *object, size_t object_len, uint8_t *nodes,
-                       size_t nodes_len);
+/* Fills the nodes buffer from an object, and gives 0 or: 1, 2, 3, then 6 where object_len is not k * len or nodes_len not n * len. */
+MOGTRIZ_CALL uint8_t mogtriz_encode(size_t family, size_t k, size_t len, const uint8_t *object, size_t object_len, uint8_t *nodes,
+                                    size_t nodes_len);
 
 /* n, the number of nodes; 0 where the family or k is out of range. */
 size_t mogtriz_node_count(size_t family, size_t k);
@@ -74,7 +162,7 @@ typedef struct {
     uint8_t live[256];
 } mogtriz_session;
 
-/* What a start or a box gives: 0 and the session, or the refusal's number and a session of zeros. */
+/* What a start or a box gives: 0 and the session, or the refusal's number and a session of zeros, which gives 13 if it is used. */
 typedef struct {
     uint8_t refusal;
     mogtriz_session session;
@@ -119,71 +207,244 @@ typedef struct {
     size_t length;
 } mogtriz_part;
 
-/*
- * A session with the nodes of a list live, a byte a node, strictly rising; an empty list sets none.
- *   1, 2, 3 as above   4  a node number is 0 or above n   5  the list does not strictly rise
- */
-mogtriz_started mogtriz_start(size_t family, size_t k, size_t len, const uint8_t *list, size_t list_len);
+/* A session with the nodes of a list live, a byte a node, strictly rising; an empty list sets none. Gives 0 or: 1, 2, 3, 4, 5. */
+MOGTRIZ_CALL mogtriz_started mogtriz_start(size_t family, size_t k, size_t len, const uint8_t *list, size_t list_len);
 
 /*
  * A box: byte 0 the family, byte 1 k, bytes 2 and 3 len, low byte first, byte 4 the number E of nodes held, bytes 5 to 7 zero;
  * then E node numbers, a byte each, strictly rising; then their E blocks of len bytes in the same order, the bodies. Its length
- * is 8 + E + E * len.
+ * is MOGTRIZ_BOX_HEAD + E + E * len.
  */
 
 /*
- * A box checked alone, which gives its session.
- *   7  under 8 bytes   1, 2, 3 as above   8  a byte of 5 to 7 is not zero   7  the length is not as its contents say
- *   9  E is above n    4  a node number is 0 or above n    5  the list does not strictly rise
+ * A box checked alone, which gives its session. Gives 0 or: 7 for a box that is shorter than its head, 1, 2, 3, 8, 7 where the
+ * length is not as its contents say, 9, 4, 5.
  */
-mogtriz_started mogtriz_check(const uint8_t *box, size_t box_len);
+MOGTRIZ_CALL mogtriz_started mogtriz_check(const uint8_t *box, size_t box_len);
 
 /* A box read into a nodes buffer: its checks, then 6 where nodes_len is not n * len. Places of missing nodes keep their bytes. */
-mogtriz_started mogtriz_read(const uint8_t *box, size_t box_len, uint8_t *nodes, size_t nodes_len);
+MOGTRIZ_CALL mogtriz_started mogtriz_read(const uint8_t *box, size_t box_len, uint8_t *nodes, size_t nodes_len);
 
 /* The body of one node, as a part of the box: its checks, then 4, and 12 where the node is not in the box. */
-mogtriz_part mogtriz_body(const uint8_t *box, size_t box_len, size_t node);
+MOGTRIZ_CALL mogtriz_part mogtriz_body(const uint8_t *box, size_t box_len, size_t node);
 
 /*
- * A box of the listed live nodes; an empty list stands for every live node. Nothing beyond the length is written.
- *   13  no start gives this session   6  nodes_len is not n * len   4, 5 as above   12  a listed node is missing
- *   6  the destination is shorter than the box
+ * A box of the listed live nodes; an empty list stands for every live node. Nothing beyond the length is written. Gives 0 or: 13,
+ * 6 where nodes_len is not n * len, 4, 5, 12 where a listed node is missing, 6 where the destination is shorter than the box.
  */
-mogtriz_written mogtriz_write(mogtriz_session session, const uint8_t *nodes, size_t nodes_len, const uint8_t *list,
-                              size_t list_len, uint8_t *out, size_t out_len);
+MOGTRIZ_CALL mogtriz_written mogtriz_write(mogtriz_session session, const uint8_t *nodes, size_t nodes_len, const uint8_t *list,
+                                           size_t list_len, uint8_t *out, size_t out_len);
 
 /*
- * The k data blocks, from the nodes that hold one each: 13, then 6 where nodes_len is not n * len or object_len is not
- * k * len, then 14 where a data block's node is missing.
+ * The k data blocks, from the nodes that hold one each. Gives 0 or: 13, 6 where nodes_len is not n * len or object_len is not
+ * k * len, 14.
  */
-mogtriz_read_out_answer mogtriz_read_out(mogtriz_session session, const uint8_t *nodes, size_t nodes_len, uint8_t *object,
-                                         size_t object_len);
+MOGTRIZ_CALL mogtriz_read_out_answer mogtriz_read_out(mogtriz_session session, const uint8_t *nodes, size_t nodes_len,
+                                                      uint8_t *object, size_t object_len);
 
 /*
- * One repair, from two nodes that the caller names: the node's block becomes the XOR of theirs, and it becomes live.
- * Otherwise nothing is written, and the number is that of the first of these that is met:
- *   13  no start gives this session   6  nodes_len is not n * len   4  one of the three numbers is 0 or above n
- *   10  the three nodes are not related   11  the node to repair is live   12  the first or the second is missing
+ * One repair, from two nodes that the caller names: the node's block becomes the XOR of theirs, and it becomes live. Gives 0 or:
+ * 13, 6 where nodes_len is not n * len, 4 for any of the three numbers, 10, 11, 12 where the first or the second is missing.
  */
-mogtriz_stepped mogtriz_step(mogtriz_session session, uint8_t *nodes, size_t nodes_len, size_t node, size_t first,
-                             size_t second);
+MOGTRIZ_CALL mogtriz_stepped mogtriz_step(mogtriz_session session, uint8_t *nodes, size_t nodes_len, size_t node, size_t first,
+                                          size_t second);
 
 /*
  * The repairs to make, in rounds from 1. In a round every missing node with a related pair, both live when the round began,
- * is repaired from the pair whose smaller number is least; it serves from the next round on. Each step is four bytes: round,
- * node, smaller, larger; in a round they rise by node. There are at most n steps, and nothing beyond them is written. Where nodes
- * are left the plan is accepted all the same, and `left` says how many.
- *   13  no start gives this session   6  out_len is under four bytes a step; nothing is written then
+ * is repaired from the pair whose smaller number is least; it serves from the next round on. Each step is MOGTRIZ_STEP_LEN bytes:
+ * round, node, smaller, larger; in a round they rise by node. There are at most n steps, and nothing beyond them is written. Where
+ * nodes are left the plan is accepted all the same, and `left` says how many. Gives 0 or: 13, 6 where the destination is shorter than
+ * the plan.
  */
-mogtriz_repairs mogtriz_plan(mogtriz_session session, uint8_t *out, size_t out_len);
+MOGTRIZ_CALL mogtriz_repairs mogtriz_plan(mogtriz_session session, uint8_t *out, size_t out_len);
 
 /*
  * The plan carried out on the nodes buffer; the next session has the repaired nodes live. Blocks of live nodes and places of
  * nodes left keep their bytes; where there are any left the run is accepted all the same, and `left` says how many. A live block
- * is taken to be what it says: damage to it is not noticed, and goes into the blocks repaired from it. A refusal writes nothing:
- *   13  no start gives this session   6  nodes_len is not n * len
+ * is taken to be what it says: damage to it is not noticed, and goes into the blocks repaired from it. Gives 0 or: 13, 6 where
+ * nodes_len is not n * len.
  */
-mogtriz_repairs mogtriz_run(mogtriz_session session, uint8_t *nodes, size_t nodes_len);
+MOGTRIZ_CALL mogtriz_repairs mogtriz_run(mogtriz_session session, uint8_t *nodes, size_t nodes_len);
+
+/*
+ * From here on functions of this header alone: no symbol of the library.
+ *
+ * Each call with a buffer has one by its name with `inline` in it, which hands the library a byte's address for an empty buffer and,
+ * with MOGTRIZ_CHECK_BUFFERS, asserts that the buffers are as said at the top. A macro puts it in the place of a call by name.
+ */
+#ifdef MOGTRIZ_CHECK_BUFFERS
+#define MOGTRIZ_ASSERT(holds) assert(holds)
+#else
+#define MOGTRIZ_ASSERT(holds) ((void)0)
+#endif
+
+#ifdef __cplusplus
+#define MOGTRIZ_ADDRESS(pointer) reinterpret_cast<uintptr_t>(pointer)
+#else
+#define MOGTRIZ_ADDRESS(pointer) ((uintptr_t)(pointer))
+#endif
+
+/* Whether no byte of one buffer is one of the other. */
+static inline int mogtriz_inline_apart(const uint8_t *one, size_t one_len, const uint8_t *other, size_t other_len)
+{
+    uintptr_t start = MOGTRIZ_ADDRESS(one), other_start = MOGTRIZ_ADDRESS(other);
+    if (one_len == 0 || other_len == 0) {
+        return 1;
+    }
+    return start < other_start ? other_start - start >= one_len : start - other_start >= other_len;
+}
+
+/* A buffer that the library reads, as it takes it. */
+static inline const uint8_t *mogtriz_inline_source(const uint8_t *start, size_t length)
+{
+    static const uint8_t none = 0;
+    MOGTRIZ_ASSERT(start != NULL || length == 0);
+    return length == 0 ? &none : start;
+}
+
+/* A buffer that the library writes, as it takes it. */
+static inline uint8_t *mogtriz_inline_target(uint8_t *start, size_t length)
+{
+    static uint8_t none = 0;
+    MOGTRIZ_ASSERT(start != NULL || length == 0);
+    return length == 0 ? &none : start;
+}
+
+MOGTRIZ_ANSWERS static inline uint8_t mogtriz_inline_encode(size_t family, size_t k, size_t len, const uint8_t *object,
+                                                            size_t object_len, uint8_t *nodes, size_t nodes_len)
+{
+    MOGTRIZ_ASSERT(mogtriz_inline_apart(nodes, nodes_len, object, object_len));
+    return mogtriz_encode(family, k, len, mogtriz_inline_source(object, object_len), object_len,
+                          mogtriz_inline_target(nodes, nodes_len), nodes_len);
+}
+
+MOGTRIZ_ANSWERS static inline mogtriz_started mogtriz_inline_start(size_t family, size_t k, size_t len, const uint8_t *list,
+                                                                   size_t list_len)
+{
+    return mogtriz_start(family, k, len, mogtriz_inline_source(list, list_len), list_len);
+}
+
+MOGTRIZ_ANSWERS static inline mogtriz_started mogtriz_inline_check(const uint8_t *box, size_t box_len)
+{
+    return mogtriz_check(mogtriz_inline_source(box, box_len), box_len);
+}
+
+MOGTRIZ_ANSWERS static inline mogtriz_started mogtriz_inline_read(const uint8_t *box, size_t box_len, uint8_t *nodes,
+                                                                  size_t nodes_len)
+{
+    MOGTRIZ_ASSERT(mogtriz_inline_apart(nodes, nodes_len, box, box_len));
+    return mogtriz_read(mogtriz_inline_source(box, box_len), box_len, mogtriz_inline_target(nodes, nodes_len), nodes_len);
+}
+
+MOGTRIZ_ANSWERS static inline mogtriz_part mogtriz_inline_body(const uint8_t *box, size_t box_len, size_t node)
+{
+    return mogtriz_body(mogtriz_inline_source(box, box_len), box_len, node);
+}
+
+MOGTRIZ_ANSWERS static inline mogtriz_written mogtriz_inline_write(mogtriz_session session, const uint8_t *nodes,
+                                                                   size_t nodes_len, const uint8_t *list, size_t list_len,
+                                                                   uint8_t *out, size_t out_len)
+{
+    MOGTRIZ_ASSERT(mogtriz_inline_apart(out, out_len, nodes, nodes_len));
+    MOGTRIZ_ASSERT(mogtriz_inline_apart(out, out_len, list, list_len));
+    return mogtriz_write(session, mogtriz_inline_source(nodes, nodes_len), nodes_len, mogtriz_inline_source(list, list_len),
+                         list_len, mogtriz_inline_target(out, out_len), out_len);
+}
+
+MOGTRIZ_ANSWERS static inline mogtriz_read_out_answer mogtriz_inline_read_out(mogtriz_session session, const uint8_t *nodes,
+                                                                              size_t nodes_len, uint8_t *object,
+                                                                              size_t object_len)
+{
+    MOGTRIZ_ASSERT(mogtriz_inline_apart(object, object_len, nodes, nodes_len));
+    return mogtriz_read_out(session, mogtriz_inline_source(nodes, nodes_len), nodes_len,
+                            mogtriz_inline_target(object, object_len), object_len);
+}
+
+MOGTRIZ_ANSWERS static inline mogtriz_stepped mogtriz_inline_step(mogtriz_session session, uint8_t *nodes, size_t nodes_len,
+                                                                  size_t node, size_t first, size_t second)
+{
+    return mogtriz_step(session, mogtriz_inline_target(nodes, nodes_len), nodes_len, node, first, second);
+}
+
+MOGTRIZ_ANSWERS static inline mogtriz_repairs mogtriz_inline_plan(mogtriz_session session, uint8_t *out, size_t out_len)
+{
+    return mogtriz_plan(session, mogtriz_inline_target(out, out_len), out_len);
+}
+
+MOGTRIZ_ANSWERS static inline mogtriz_repairs mogtriz_inline_run(mogtriz_session session, uint8_t *nodes, size_t nodes_len)
+{
+    return mogtriz_run(session, mogtriz_inline_target(nodes, nodes_len), nodes_len);
+}
+
+#undef MOGTRIZ_ASSERT
+#undef MOGTRIZ_ADDRESS
+#undef MOGTRIZ_CALL
+#undef MOGTRIZ_ANSWERS
+
+#define mogtriz_encode(...) mogtriz_inline_encode(__VA_ARGS__)
+#define mogtriz_start(...) mogtriz_inline_start(__VA_ARGS__)
+#define mogtriz_check(...) mogtriz_inline_check(__VA_ARGS__)
+#define mogtriz_read(...) mogtriz_inline_read(__VA_ARGS__)
+#define mogtriz_body(...) mogtriz_inline_body(__VA_ARGS__)
+#define mogtriz_write(...) mogtriz_inline_write(__VA_ARGS__)
+#define mogtriz_read_out(...) mogtriz_inline_read_out(__VA_ARGS__)
+#define mogtriz_step(...) mogtriz_inline_step(__VA_ARGS__)
+#define mogtriz_plan(...) mogtriz_inline_plan(__VA_ARGS__)
+#define mogtriz_run(...) mogtriz_inline_run(__VA_ARGS__)
+
+/* A sentence on an answer's number, with no full stop; any number has one. */
+static inline const char *mogtriz_refusal_text(size_t number)
+{
+    switch (number) {
+    case MOGTRIZ_SERVED:
+        return "served";
+#define MOGTRIZ_CASE(number, name, text) \
+    case name:                           \
+        return text;
+        MOGTRIZ_REFUSALS(MOGTRIZ_CASE)
+#undef MOGTRIZ_CASE
+    default:
+        return "a reason that has no name in this header";
+    }
+}
+
+/*
+ * The length in bytes of an object, k * len; of a nodes buffer, n * len; and of a box of so many nodes. 0 where family, k or len is
+ * out of range, or `held` above n: it is the length of none of them, and with numbers in range no product overflows.
+ */
+static inline size_t mogtriz_object_len(size_t family, size_t k, size_t len)
+{
+    if (mogtriz_start(family, k, len, NULL, 0).refusal != MOGTRIZ_SERVED) {
+        return 0;
+    }
+    return k * len;
+}
+
+static inline size_t mogtriz_nodes_len(size_t family, size_t k, size_t len)
+{
+    if (mogtriz_start(family, k, len, NULL, 0).refusal != MOGTRIZ_SERVED) {
+        return 0;
+    }
+    return mogtriz_node_count(family, k) * len;
+}
+
+static inline size_t mogtriz_box_len(size_t family, size_t k, size_t len, size_t held)
+{
+    if (mogtriz_start(family, k, len, NULL, 0).refusal != MOGTRIZ_SERVED || held > mogtriz_node_count(family, k)) {
+        return 0;
+    }
+    return MOGTRIZ_BOX_HEAD + held + held * len;
+}
+
+/* How many nodes are live: the `held` of a box of every live node. */
+static inline size_t mogtriz_live_count(mogtriz_session session)
+{
+    size_t count = 0;
+    for (size_t node = 1; node <= MOGTRIZ_MOST_NODES; node++) {
+        count += session.live[node] == 1;
+    }
+    return count;
+}
 
 #ifdef __cplusplus
 }
