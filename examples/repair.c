@@ -1,88 +1,136 @@
 /*
- * An object is encoded, a box keeps three of its seven nodes, and the others are planned, repaired and read out.
- * From the repository's folder:
+ * An object is stored as a box that keeps three of its seven nodes; the others are planned, repaired and read out. It is C99 and C++
+ * alike. Where the library is installed:
  *
- *   rt staticlib mogtriz
- *   cc -std=c11 -Iinclude examples/repair.c target/staticlib/libmogtriz.a -o repair && ./repair
+ *   cc -std=c99 repair.c $(pkg-config --cflags --libs mogtriz) -o repair && ./repair
  */
-#include "mogtriz.h"
+#include <mogtriz.h>
 
 #include <stdio.h>
 #include <stdlib.h>
 #include <string.h>
 
-enum { SIMPLEX = 1, K = 3, N = 7, LEN = 8, BOX = 8 + N + N * LEN };
+enum { K = 3, LEN = 8 };
 
-/* Every call gives a number: 0, or why it was turned away. */
+typedef struct {
+    uint8_t *bytes;
+    size_t length;
+} buffer;
+
+static void give_up(const char *reason)
+{
+    fprintf(stderr, "%s\n", reason);
+    exit(1);
+}
+
+/* An answer's number is looked at before anything else of it. */
 static void expect_served(const char *call, uint8_t refusal)
 {
-    if (refusal != 0) {
-        fprintf(stderr, "%s: refused %d\n", call, refusal);
-        exit(1);
+    if (refusal == MOGTRIZ_SERVED) {
+        return;
     }
+    fprintf(stderr, "%s: refused %d\n", call, refusal);
+    give_up(mogtriz_refusal_text(refusal));
 }
 
-/* The box of nodes 4, 5 and 7; its length. */
-static size_t keep_three_nodes(const uint8_t nodes[N * LEN], uint8_t box[BOX])
+/* A buffer of zeros. The header's functions give the length, and 0 for numbers that are out of range. */
+static buffer make_buffer(size_t length)
+{
+    buffer made = {NULL, length};
+    if (length == 0) {
+        give_up("no such family, k or block length");
+    }
+    made.bytes = (uint8_t *)calloc(length, 1);
+    if (made.bytes == NULL) {
+        give_up("no memory");
+    }
+    return made;
+}
+
+/* The box of nodes 4, 5 and 7 of an object; the other nodes are lost. */
+static buffer store(const uint8_t *object, size_t object_len)
 {
     const uint8_t kept[] = {4, 5, 7};
-    mogtriz_started started = mogtriz_start(SIMPLEX, K, LEN, kept, sizeof kept);
+    buffer nodes = make_buffer(mogtriz_nodes_len(MOGTRIZ_SIMPLEX, K, LEN));
+    buffer box = make_buffer(mogtriz_box_len(MOGTRIZ_SIMPLEX, K, LEN, sizeof kept));
+
+    expect_served("encode", mogtriz_encode(MOGTRIZ_SIMPLEX, K, LEN, object, object_len, nodes.bytes, nodes.length));
+    printf("encoded %zu bytes into %zu nodes\n", object_len, nodes.length / LEN);
+
+    mogtriz_started started = mogtriz_start(MOGTRIZ_SIMPLEX, K, LEN, kept, sizeof kept);
     expect_served("start", started.refusal);
-    mogtriz_written written = mogtriz_write(started.session, nodes, N * LEN, kept, sizeof kept, box, BOX);
+    mogtriz_written written =
+        mogtriz_write(started.session, nodes.bytes, nodes.length, kept, sizeof kept, box.bytes, box.length);
     expect_served("write", written.refusal);
     printf("wrote a box of %zu bytes\n", written.length);
-    return written.length;
+    free(nodes.bytes);
+    return box;
 }
 
-static mogtriz_session read_box(const uint8_t *box, size_t box_len, uint8_t nodes[N * LEN])
+/* A box says how long a nodes buffer it needs: it is checked first, and then read into one. */
+static mogtriz_session read_box(buffer box, buffer *nodes)
 {
-    mogtriz_started started = mogtriz_read(box, box_len, nodes, N * LEN);
+    mogtriz_started checked = mogtriz_check(box.bytes, box.length);
+    expect_served("check", checked.refusal);
+    *nodes = make_buffer(mogtriz_nodes_len(checked.session.family, checked.session.k, checked.session.len));
+    mogtriz_started started = mogtriz_read(box.bytes, box.length, nodes->bytes, nodes->length);
     expect_served("read", started.refusal);
-    int live = 0;
-    for (int node = 1; node <= N; node++) {
-        live += started.session.live[node];
-    }
-    printf("read a box of %d nodes\n", live);
+    printf("read a box of %zu nodes\n", mogtriz_live_count(started.session));
     return started.session;
 }
 
-/* A call takes the session and gives the next one back. */
-static mogtriz_session print_plan(mogtriz_session session)
+static void print_plan(mogtriz_session session)
 {
-    uint8_t steps[4 * N];
+    uint8_t steps[MOGTRIZ_PLAN_ROOM];
     mogtriz_repairs plan = mogtriz_plan(session, steps, sizeof steps);
     expect_served("plan", plan.refusal);
     for (size_t i = 0; i < plan.steps; i++) {
-        const uint8_t *step = steps + 4 * i;
+        const uint8_t *step = steps + MOGTRIZ_STEP_LEN * i;
         printf("round %d: node %d from %d and %d\n", step[0], step[1], step[2], step[3]);
     }
-    return plan.session;
 }
 
-static mogtriz_session repair(mogtriz_session session, uint8_t nodes[N * LEN])
+/* A run gives the next session, in which the repaired nodes are live. */
+static mogtriz_session repair(mogtriz_session session, buffer nodes)
 {
-    mogtriz_repairs run = mogtriz_run(session, nodes, N * LEN);
+    mogtriz_repairs run = mogtriz_run(session, nodes.bytes, nodes.length);
     expect_served("run", run.refusal);
     printf("%zu repaired in %zu rounds, %zu left\n", run.steps, run.rounds, run.left);
     return run.session;
 }
 
+static buffer read_out(mogtriz_session session, buffer nodes)
+{
+    buffer object = make_buffer(mogtriz_object_len(session.family, session.k, session.len));
+    mogtriz_read_out_answer out = mogtriz_read_out(session, nodes.bytes, nodes.length, object.bytes, object.length);
+    /* where more nodes are lost than can be repaired */
+    if (out.refusal == MOGTRIZ_REFUSED_BLOCK_MISSING) {
+        fprintf(stderr, "data block %zu is lost\n", out.block);
+    }
+    expect_served("read out", out.refusal);
+    printf("read out: %.*s\n", (int)object.length, (const char *)object.bytes);
+    return object;
+}
+
 int main(void)
 {
-    const char object[K * LEN + 1] = "vowels of one disc, 1952";
-    uint8_t nodes[N * LEN], box[BOX], again[K * LEN];
-    expect_served("encode", mogtriz_encode(SIMPLEX, K, LEN, (const uint8_t *)object, K * LEN, nodes, sizeof nodes));
-    printf("encoded %d bytes into %d nodes\n", K * LEN, N);
+    const char text[] = "vowels of one disc, 1952";
+    const uint8_t *object = (const uint8_t *)text;
+    const size_t object_len = strlen(text);
+    buffer nodes;
 
-    size_t box_len = keep_three_nodes(nodes, box);
-    memset(nodes, 0, sizeof nodes);
-    mogtriz_session session = repair(print_plan(read_box(box, box_len, nodes)), nodes);
+    buffer box = store(object, object_len);
+    mogtriz_session session = read_box(box, &nodes);
+    print_plan(session);
+    session = repair(session, nodes);
+    buffer again = read_out(session, nodes);
+    int same = again.length == object_len && memcmp(again.bytes, object, object_len) == 0;
 
-    mogtriz_read_out_answer out = mogtriz_read_out(session, nodes, sizeof nodes, again, sizeof again);
-    expect_served("read out", out.refusal);
-    printf("read out: %.*s\n", K * LEN, (const char *)again);
+    mogtriz_stepped stepped = mogtriz_step(session, nodes.bytes, nodes.length, 6, 1, 7);
+    printf("a step to node 6: refused %d: %s\n", stepped.refusal, mogtriz_refusal_text(stepped.refusal));
 
-    mogtriz_stepped stepped = mogtriz_step(out.session, nodes, sizeof nodes, 6, 1, 7);
-    printf("a step to node 6, which is live: refused %d\n", stepped.refusal);
-    return memcmp(object, again, sizeof again) == 0 ? 0 : 1;
+    free(box.bytes);
+    free(nodes.bytes);
+    free(again.bytes);
+    return same ? 0 : 1;
 }

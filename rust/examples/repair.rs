@@ -31,10 +31,7 @@ fn main() -> Result<(), Refusal> {
 
     match session.step(&mut nodes, 6, [1, 7]) {
         Err(refusal @ Refusal::AlreadyLive) => {
-            println!(
-                "a step to node 6, which is live: refused {}",
-                refusal.number()
-            );
+            println!("a step to node 6: {refusal}");
             Ok(())
         }
         other => other,
