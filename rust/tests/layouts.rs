@@ -1,13 +1,11 @@
 //! The version and the layouts of the C interface: each struct of include/mogtriz.h has in C the size, the fields and their places
 //! that it has in `raw`, and the header has no other.
+mod in_c;
+
 use mogtriz::raw::{Part, ReadOut, Repairs, Session, Started, Stepped, Written};
 use std::fmt::Write;
 use std::fs;
 use std::mem::{offset_of, size_of};
-use std::path::Path;
-use std::process::Command;
-
-const HEADER: &str = concat!(env!("CARGO_MANIFEST_DIR"), "/../include/mogtriz.h");
 
 /// A line for a struct and one for each field. The pattern names every field, or it is no Rust.
 macro_rules! layout {
@@ -62,7 +60,7 @@ fn field_name(declaration: &str) -> Option<&str> {
     last.split('[').next()
 }
 
-/// A program in C that prints what Rust's lines say.
+/// The lines of a program in C that prints what Rust's lines say.
 fn program(header: &str) -> String {
     let mut lines = String::from("    printf(\"version %d\\n\", MOGTRIZ_VERSION);\n");
     for (name, fields) in structs(header) {
@@ -76,25 +74,13 @@ fn program(header: &str) -> String {
             );
         }
     }
-    format!(
-        "#include <stdio.h>\n#include \"{HEADER}\"\nint main(void)\n{{\n{lines}    return 0;\n}}\n"
-    )
+    lines
 }
 
 fn layouts_in_c() -> String {
-    let folder = Path::new(env!("CARGO_TARGET_TMPDIR"));
-    let [source, made] = ["layouts.c", "layouts"].map(|name| folder.join(name));
-    let header = fs::read_to_string(HEADER).expect("the header");
+    let header = fs::read_to_string(in_c::HEADER).expect("the header");
     assert_eq!(structs(&header).len(), header.matches("typedef").count());
-    fs::write(&source, program(&header)).expect("a place for the program in C");
-    let compiled = Command::new("cc")
-        .arg(&source)
-        .arg("-o")
-        .arg(&made)
-        .status();
-    assert!(compiled.expect("cc").success(), "{}", source.display());
-    let printed = Command::new(&made).output().expect("the program in C");
-    String::from_utf8(printed.stdout).expect("text")
+    in_c::printed_by("layouts", &program(&header))
 }
 
 #[test]
