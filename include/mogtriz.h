@@ -14,11 +14,11 @@
  *
  * Every number is taken as it comes: one that is out of range is refused, however large, and never cut.
  *
- * Buffers. Each pointer has to be to as many bytes as its length says, at any alignment. With a length of 0 it may be null: it is
- * an empty buffer then. Null with a length above 0 is the caller's fault, and so is a buffer that is written and overlaps another of
- * the call: nothing that is said here holds then. Such a call can answer 0 with wrong bytes, as encode does where the object lies at
- * the front of the nodes buffer. A program that defines MOGTRIZ_CHECK_BUFFERS before it includes this header has both faults end it
- * by `assert`, unless NDEBUG is defined.
+ * Buffers. Each pointer has to be to as many bytes as its length says, at any alignment. With a length of 0 it may be null: that is
+ * an empty buffer. Null with a length above 0 is the caller's fault, and so is a buffer that is written and overlaps another of the
+ * call: nothing that is said here holds then. Such a call can answer 0 and leave wrong bytes, as encode does in simplex where the
+ * object lies at the front of the nodes buffer. Where a program defines MOGTRIZ_CHECK_BUFFERS before it includes this header, `assert`
+ * ends it at both faults, unless NDEBUG is defined too.
  *
  * Addresses and symbols. A call by name goes through a function in this header, which sees to empty buffers. A name with no bracket
  * after it, as in `&mogtriz_run`, is the library's own function, and so is the symbol for another language: these take no null

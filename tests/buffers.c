@@ -57,6 +57,9 @@ static void neighbours_are_no_overlap(void)
     memcpy(middle + sizeof nodes, object, sizeof object);
     EXPECT(mogtriz_encode(MOGTRIZ_SIMPLEX, K, LEN, middle + sizeof nodes, sizeof object, middle, sizeof nodes) == MOGTRIZ_SERVED);
     EXPECT(memcmp(middle, all_nodes, sizeof all_nodes) == 0);
+    /* nor does an empty one, wherever it lies */
+    EXPECT(mogtriz_encode(MOGTRIZ_SIMPLEX, K, LEN, middle + 1, 0, middle, sizeof nodes) == MOGTRIZ_REFUSED_BUFFER_LENGTH);
+    EXPECT(mogtriz_encode(MOGTRIZ_SIMPLEX, K, LEN, both, sizeof object, both + 1, 0) == MOGTRIZ_REFUSED_BUFFER_LENGTH);
 }
 
 /* Makes a fault: null with a length above 0 for each pointer of each call, or two buffers with a byte in common. */

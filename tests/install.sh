@@ -7,16 +7,16 @@ room=$PWD/target/installed
 rm -rf "$room"
 mkdir -p "$room"
 
-# files FOLDER: those below it, one a line
-files() { (cd "$1" && find . -type f | sort); }
-wanted='./include/mogtriz.h
-./lib/libmogtriz.a
-./lib/pkgconfig/mogtriz.pc'
+# files FOLDER: those below it, one a line, with their modes
+files() { (cd "$1" && find . -type f -printf '%m %p\n' | sort -k 2); }
+wanted='644 ./include/mogtriz.h
+644 ./lib/libmogtriz.a
+644 ./lib/pkgconfig/mogtriz.pc'
 
 # from another folder, to a folder named from there
 (cd "$room" && bash ../../install.sh prefix >said)
 diff <(files "$room/prefix") <(echo "$wanted")
-diff <(sed "s|^$room/prefix/|./|" "$room/said") <(echo "$wanted")
+diff <(sed "s|^$room/prefix/|644 ./|" "$room/said") <(echo "$wanted")
 
 # the program is in a folder of its own, so that nothing of the repository is found beside it
 cp examples/repair.c "$room"
@@ -39,15 +39,18 @@ int main(void)
 END
 cc "$room/version.c" "${flags[@]}" -o "$room/version"
 version=$(pkg-config --modversion mogtriz)
-[ "$("$room/version")" = "$version $version" ]
+diff <("$room/version") <(echo "$version $version")
 
-(cd "$room" && DESTDIR=stage bash ../../install.sh /opt/mogtriz/ >said)
-diff <(files "$room/stage/opt/mogtriz") <(echo "$wanted")
-diff <(sed "s|^prefix=.*|prefix=/opt/mogtriz|" "$room/prefix/lib/pkgconfig/mogtriz.pc") "$room/stage/opt/mogtriz/lib/pkgconfig/mogtriz.pc"
+# to a prefix of our own, so that nothing else is written to if DESTDIR is forgotten
+(cd "$room" && DESTDIR=stage bash ../../install.sh "$room/later/" >said)
+diff <(files "$room/stage$room/later") <(echo "$wanted")
+diff <(sed "s|^prefix=.*|prefix=$room/later|" "$room/prefix/lib/pkgconfig/mogtriz.pc") \
+    "$room/stage$room/later/lib/pkgconfig/mogtriz.pc"
 
 # refused ARGUMENT..: nothing is installed, and it says why
+script=../../install.sh
 refused() {
-    if bash install.sh "$@" >"$room/said" 2>"$room/complaint" || [ -s "$room/said" ] || [ ! -s "$room/complaint" ]; then
+    if (cd "$room" && bash "$script" "$@" >said 2>complaint) || [ -s "$room/said" ] || [ ! -s "$room/complaint" ]; then
         echo "install.sh was not to serve: $*"
         exit 1
     fi
@@ -57,5 +60,10 @@ refused ""
 refused "$room/a" "$room/b"
 refused "$room/a b"
 refused "$room/a#b"
-[ ! -e "$room/a" ] && [ ! -e "$room/a b" ] && [ ! -e "$room/a#b" ]
+# no library has been made beside this one
+mkdir "$room/bare"
+cp -r install.sh include "$room/bare"
+script=bare/install.sh
+refused "$room/a"
+diff <(cd "$room" && ls -d a* 2>/dev/null) /dev/null
 echo "installed, version $version: $(echo "$wanted" | wc -l) files, found by pkg-config"
