@@ -1,7 +1,7 @@
 /*
- * Buffers as an empty std::vector gives them, null and 0, in every call and for every pointer; and buffers that are the caller's fault.
- * Compiled with MOGTRIZ_CHECK_BUFFERS and under sanitizers. With no argument it tries the first and prints how many faults
- * it has; with a fault's number it makes that one, which ends it.
+ * Buffers as an empty std::vector gives them, null and 0, in every call and for every pointer; and buffers that are the caller's
+ * fault. Compiled under sanitizers, with MOGTRIZ_CHECK_BUFFERS and without. With no argument it tries the first and prints how many
+ * faults it has with null, and how many in all; with a fault's number it makes that one, which ends it.
  */
 #include "three_nodes.h"
 
@@ -62,7 +62,7 @@ static void neighbours_are_no_overlap(void)
     EXPECT(mogtriz_encode(MOGTRIZ_SIMPLEX, K, LEN, both, sizeof object, both + 1, 0) == MOGTRIZ_REFUSED_BUFFER_LENGTH);
 }
 
-/* Makes a fault: null with a length above 0 for each pointer of each call, or two buffers with a byte in common. */
+/* Makes a fault: null with a length above 0, for each pointer of each call. */
 static uint8_t null_fault(int fault)
 {
     switch (fault) {
@@ -99,6 +99,7 @@ static uint8_t null_fault(int fault)
     }
 }
 
+/* Makes a fault: a buffer that is written has a byte in common with another, for each two of a call. */
 static uint8_t overlap_fault(int fault)
 {
     static uint8_t shared[64];

@@ -54,7 +54,7 @@ calls() {
 # g++ takes a file for C++ whatever it is called
 calls C++11 g++ -std=c++11
 calls C++17 g++ -std=c++17
-calls C99 cc -std=c99
+calls C99 gcc -std=c99
 
 # ---- buffers: empty, null, and in one another
 
@@ -82,16 +82,16 @@ buffers() {
 }
 
 buffers C++17 g++ -std=c++17
-buffers C99 cc -std=c99
+buffers C99 gcc -std=c99
 
-cc -c "${strict[@]}" -std=c99 -DMOGTRIZ_CHECK_BUFFERS tests/buffers.c -o "$out/buffers.o"
+gcc -c "${strict[@]}" -std=c99 -DMOGTRIZ_CHECK_BUFFERS tests/buffers.c -o "$out/buffers.o"
 nm --defined-only "$out/calls.o" "$out/header.o" "$out/buffers.o" | grep ' t ' | names | diff "$out/inline" -
 echo "header: $(wc -l <"$out/inline") functions called"
 
 # ---- the stack, by programs with and without optimisation
 
 for level in -O0 -O2; do
-    cc -std=c99 "$level" "${strict[@]}" tests/stack.c "$archive" -Wl,-z,now -o "$out/stack"
+    gcc -std=c99 "$level" "${strict[@]}" tests/stack.c "$archive" -Wl,-z,now -o "$out/stack"
     "$out/stack" >"$out/stack$level.said"
 done
 read -r call most < <(sort -k 2nr "$out"/stack-O?.said)
