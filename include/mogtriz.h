@@ -78,7 +78,8 @@
 
 /*
  * Why a call is turned away: ROW(number, name, text) for each reason. A call gives the first that is met in the order of its checks,
- * as said beside it, and writes nothing then. 1 to 10 are due to what is handed in, 11 to 14 to what the session or the box says.
+ * as said beside it, and writes nothing then. 1 to 10 are due to what is handed in, 11 to 14 to what the session or the box says. The
+ * names are constants, and so is MOGTRIZ_SERVED, 0, which is no refusal.
  */
 #define MOGTRIZ_REFUSALS(ROW)                                                                                                 \
     ROW(1, MOGTRIZ_REFUSED_FAMILY_UNKNOWN, "the family is not 1, 2 or 3")                                                     \
@@ -108,7 +109,7 @@ enum {
 #undef MOGTRIZ_NUMBERED
 };
 
-/* A call whose answer has a refusal's number: the compiler warns where it is not looked at. */
+/* A call whose answer has a refusal's number: the compiler warns where it is ignored, gcc in C even where it is cast to void. */
 #if (defined(__cplusplus) && __cplusplus >= 201703L) || (defined(__STDC_VERSION__) && __STDC_VERSION__ >= 202311L)
 #define MOGTRIZ_ANSWERS [[nodiscard]]
 #elif defined(__GNUC__)
