@@ -6,6 +6,7 @@ use Prim.Native.Nat.{ℕ, zero, suc, _+_, _≤_, _<_}
 use native.Mathlib.Decide.{ℕ-discrete}
 use native.Mathlib.Omega.{arith}
 use Rattle.base.specs.Ranges.{firstFrom}
+use Rattle.base.proofs.Tests.{is-false}
 
 module _ (test : ℕ → Bool) where
   pass : (j m : ℕ) → test j ≡ true → firstFrom test j (suc m) ≡ j
@@ -57,3 +58,7 @@ module _ (test : ℕ → Bool) where
       go false e later =
           let ne : j ≡ i → ⊥ = λ q. false≢true (sym e ∙ ap test q ∙ t) in
           rw (skip j m e) (later (omega arith))
+
+  -- where none is found, none passes
+  pub first-zero : (j m : ℕ) → 1 ≤ j → firstFrom test j m ≡ 0 → (i : ℕ) → j ≤ i → i < j + m → test i ≡ false
+  first-zero j m p e i l h = is-false (test i) (λ t. omega (arith, first-least j m i p l h t))

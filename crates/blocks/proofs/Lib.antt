@@ -1,3 +1,4 @@
 pub mod BlockLaws
 pub mod PartLaws
 pub mod XorBytes
+pub mod JoinedLaws

@@ -1,5 +1,5 @@
 -- Blocks of a nodes buffer (document 01, "The collection's units"), and the bytewise XOR of two blocks. L is any length.
-use Prim.Native.Nat.{ℕ, _+_, _-_, _*_}
+use Prim.Native.Nat.{ℕ, zero, suc, _+_, _-_, _*_}
 use mathlib.Core.List.{List, [], _∷_, _++_}
 use lib.ListN.{take, drop}
 use lib.Bits.{bitXor}
@@ -9,6 +9,11 @@ unfoldable pub xorBytes : List ℕ → List ℕ → List ℕ
 xorBytes [] ys = []
 xorBytes (x ∷ xs) [] = []
 xorBytes (x ∷ xs) (y ∷ ys) = bitXor x y ∷ xorBytes xs ys
+
+-- blocks 1 to m of a rule, one after the other
+unfoldable pub joined : (ℕ → List ℕ) → ℕ → List ℕ
+joined block zero = []
+joined block (suc m) = joined block m ++ block (suc m)
 
 -- node j's block: the part of the nodes buffer from (j − 1) × L up to j × L
 unfoldable pub blockOf : ℕ → List ℕ → ℕ → List ℕ

@@ -13,9 +13,9 @@ use lib.Bits.{bitXor, xor-shr, xor-mod, xor-self, xor-zero-r}
 use lib.ListN.{length, getD, replicate, length-take, length-drop, length-replicate, getD-replicate}
 use lib.Seq.{getD-take, getD-drop, ext-getD}
 use Rattle.base.proofs.Xor.{xor-middle, xor-third}
-use Rattle.blocks.specs.Blocks.{xorBytes}
+use Rattle.blocks.specs.Blocks.{xorBytes, blockOf}
 use Rattle.blocks.proofs.XorBytes.{length-xorBytes, getD-xorBytes, xorBytes-self}
-use Rattle.encoding.specs.Matrix.{dataBlock, hasBlock, nodeBlock}
+use Rattle.encoding.specs.Matrix.{hasBlock, nodeBlock}
 
 -- ---- the XOR of those of k numbers that pass a test
 
@@ -92,12 +92,13 @@ node-block-zero zero L object = refl
 node-block-zero (suc k) L object = rw (zero-div (2 ^ k)) (node-block-zero k L object)
 
 module _ (k L : ℕ) (object : List ℕ) (h : length object ≡ k * L) where
-  data-bytes : (i : ℕ) → i < k → Bytes L (dataBlock L object i) (λ p. getD object (i * L + p) 0)
-  unfolding dataBlock
+  data-bytes : (i : ℕ) → i < k → Bytes L (blockOf L object (suc i)) (λ p. getD object (i * L + p) 0)
+  unfolding blockOf
   data-bytes i l =
+      let e : suc i - 1 ≡ i = omega arith in
       record {
-        size = simp (length-take, length-drop) (omega (arith, suc-mul i L, mul-le-mul-right L l));
-        at = λ p b. rw (getD-take, getD-drop);
+        size = rw e (simp (length-take, length-drop) (omega (arith, suc-mul i L, mul-le-mul-right L l)));
+        at = λ p b. rw (e, getD-take, getD-drop);
       }
 
   -- of the first i blocks alone
@@ -118,7 +119,7 @@ module _ (k L : ℕ) (object : List ℕ) (h : length object ≡ k * L) where
   pub node-block-xor : (a b : ℕ) → nodeBlock k L object (bitXor a b) ≡ xorBytes (nodeBlock k L object a) (nodeBlock k L object b)
   node-block-xor a b = same-bytes (node-bytes (bitXor a b)) (xor-bytes (node-bytes a) (node-bytes b)) (λ p. xorOver-xor k a b _)
 
-  pub node-block-unit : (i : ℕ) → i < k → nodeBlock k L object (2 ^ i) ≡ dataBlock L object i
+  pub node-block-unit : (i : ℕ) → i < k → nodeBlock k L object (2 ^ i) ≡ blockOf L object (suc i)
   node-block-unit i l = same-bytes (node-bytes (2 ^ i)) (data-bytes i l) (λ p. xorOver-unit k i _ l)
 
   -- the blocks of related nodes: each is the XOR of the other two, and the three XOR to zero

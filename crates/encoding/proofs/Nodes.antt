@@ -2,71 +2,42 @@
 -- Assumes nothing.
 use mathlib.Core.Path.{_≡_, sym, ap, _∙_}
 use mathlib.Core.Bool.{true}
-use mathlib.Core.List.{List, _++_}
-use mathlib.Core.Logic.{⊎-elim}
-use Prim.Native.Nat.{ℕ, zero, suc, _+_, _-_, _*_, _≤_, _<_}
-use native.Mathlib.Nat.{zero-mul, suc-mul, eq-or-lt-of-le, le-of-suc-le-suc}
+use mathlib.Core.List.{List}
+use Prim.Native.Nat.{ℕ, _+_, _-_, _*_, _≤_, _<_}
+use native.Mathlib.Numerals.{add-one}
 use native.Mathlib.Omega.{arith}
 use borrow.Author.Tests.{eqb-true}
 use lib.Bits.{bitXor, xor-comm}
 use lib.Count.{trailingZeros}
 use lib.Pow.{pow-mono}
-use lib.ListN.{length, take, drop, replicate, length-append}
-use lib.Seq.{take-all, drop-at}
+use lib.ListN.{length, take, replicate}
 use Rattle.families.specs.declared.Family.{Family}
 use Rattle.families.specs.Families.{IsNode, columnOf, nodeOf, nodeCount, areRelated}
 use Rattle.families.proofs.Laws.{column, short, Before, sources, node-of, lowBit}
 use Rattle.base.proofs.LowestBit.{Lowest, lowest}
 use Rattle.blocks.specs.Blocks.{xorBytes, blockOf, withBlock}
 use Rattle.blocks.specs.Inner.{InBuffer}
-use Rattle.blocks.proofs.BlockLaws.{block-fits, in-buffer, take-through, blockOf-take}
-use Rattle.blocks.proofs.PartLaws.{mid-front}
-use Rattle.encoding.specs.Matrix.{dataBlock, nodeBlock, nodeBlocks, nodesBuffer}
-use Rattle.encoding.specs.Inner.{BeforeNode}
+use Rattle.blocks.proofs.BlockLaws.{in-buffer, blockOf-take}
+use Rattle.blocks.proofs.JoinedLaws.{Sizes, length-joined, block-of-joined, joined-more}
+use Rattle.encoding.specs.Matrix.{nodeBlock, nodesBuffer}
+use Rattle.encoding.specs.Inner.{nodeBlocks, BeforeNode}
 use Rattle.encoding.proofs.Linear.{length-nodeBlock, node-block-unit, node-block-xor, node-block-related, node-block-related-zero}
 
 module _ (f : Family) (k L : ℕ) (object : List ℕ) (h : length object ≡ k * L) where
+  sizes : (m : ℕ) → Sizes L (λ j. nodeBlock k L object (columnOf f k j)) m
+  sizes m i l g = length-nodeBlock k L object h (columnOf f k i)
+
   pub length-nodeBlocks : (m : ℕ) → length (nodeBlocks f k L object m) ≡ m * L
-  unfolding nodeBlocks
-  length-nodeBlocks zero = sym (zero-mul L)
-  length-nodeBlocks (suc m) =
-      length-append (nodeBlocks f k L object m) (nodeBlock k L object (columnOf f k (suc m)))
-      ∙ rw (length-nodeBlocks m, length-nodeBlock k L object h (columnOf f k (suc m)), suc-mul m L)
+  length-nodeBlocks m = length-joined L (λ j. nodeBlock k L object (columnOf f k j)) m (sizes m)
 
   -- node i's block among them
   pub block-of-nodes : (m i : ℕ) → 1 ≤ i → i ≤ m → blockOf L (nodeBlocks f k L object m) i ≡ nodeBlock k L object (columnOf f k i)
-  unfolding nodeBlocks blockOf
-  block-of-nodes zero i l g = absurd (omega arith)
-  block-of-nodes (suc m) i l g = ⊎-elim last (λ b. before b (block-of-nodes m i l (le-of-suc-le-suc b))) (eq-or-lt-of-le g)
-    where
-      x : List ℕ
-      x = nodeBlocks f k L object m
-
-      y : List ℕ
-      y = nodeBlock k L object (columnOf f k (suc m))
-
-      last : i ≡ suc m → take L (drop ((i - 1) * L) (x ++ y)) ≡ nodeBlock k L object (columnOf f k i)
-      last e =
-          let p : i - 1 ≡ m = omega arith in
-          rw (p, drop-at x y (m * L) (length-nodeBlocks m), e) (take-all L y (omega (arith, length-nodeBlock k L object h (columnOf f k (suc m)))))
-
-      before : i < suc m → blockOf L x i ≡ nodeBlock k L object (columnOf f k i) → take L (drop ((i - 1) * L) (x ++ y)) ≡ nodeBlock k L object (columnOf f k i)
-      before b e = mid-front x y ((i - 1) * L) L (rw (length-nodeBlocks m) (block-fits L i m l (le-of-suc-le-suc b))) ∙ e
+  block-of-nodes m i l g = block-of-joined L (λ j. nodeBlock k L object (columnOf f k j)) m (sizes m) i l g
 
   -- the nodes before j and then node j's block
   pub one-more : (nodes : List ℕ) (j : ℕ) → InBuffer L nodes j → take ((j - 1) * L) nodes ≡ nodeBlocks f k L object (j - 1)
       → take (j * L) (withBlock L nodes j (nodeBlock k L object (columnOf f k j))) ≡ nodeBlocks f k L object j
-  unfolding nodeBlocks
-  one-more nodes zero i e = absurd (omega (arith, i .first))
-  one-more nodes (suc j) i e =
-      let q : suc j - 1 ≡ j = omega arith in
-      let p : suc j * L ≡ (suc j - 1) * L + L = suc-mul j L ∙ rw q in
-      rw p (take-through L nodes (suc j) (nodeBlock k L object (columnOf f k (suc j))) i (length-nodeBlock k L object h (columnOf f k (suc j))) ∙ rw (e, q))
-
--- data block i + 1 is block i + 1 of the object
-pub data-block : (L : ℕ) (object : List ℕ) (i : ℕ) → dataBlock L object i ≡ blockOf L object (i + 1)
-unfolding dataBlock blockOf
-data-block L object i = let e : i + 1 - 1 ≡ i = omega arith in rw e
+  one-more nodes j i e = joined-more L (λ j. nodeBlock k L object (columnOf f k j)) nodes j i (length-nodeBlock k L object h (columnOf f k j)) e
 
 -- node j's block from those of the nodes before it, which are in place
 module _ {f : Family} {k L : ℕ} {object nodes : List ℕ} {j : ℕ} (b : BeforeNode f k L object nodes j) where
@@ -92,7 +63,7 @@ module _ {f : Family} {k L : ℕ} {object nodes : List ℕ} {j : ℕ} (b : Befor
 
   pub from-data : c - lowBit c ≡ 0 → blockOf L object (trailingZeros 64 c + 1) ≡ nodeBlock k L object c
   from-data z =
-      sym (data-block L object (trailingZeros 64 c))
+      ap (blockOf L object) (add-one (trailingZeros 64 c))
       ∙ sym (ap (nodeBlock k L object) (omega (arith, low-le)) ∙ node-block-unit k L object (b .object-size) (trailingZeros 64 c) low-within)
 
   -- the block of an earlier node

@@ -12,11 +12,11 @@ use lib.Seq.{ext-getD}
 use Rattle.base.specs.Ranges.{firstFrom, someFrom, thoseFrom, countFrom, listFrom}
 use Rattle.families.specs.Families.{familyOf, nodeCount, columnOf, smallerAt, largerAt, areRelated}
 use Rattle.families.proofs.TableLaws.{length-listFrom, getD-listFrom}
-use Rattle.blocks.specs.Blocks.{xorBytes, blockOf, withBlock}
+use Rattle.blocks.specs.Blocks.{joined, xorBytes, blockOf, withBlock}
 use Rattle.checks.specs.Checks.{firstMet}
 use Rattle.checks.specs.Parameters.{mostL, parameterChecks}
 use Rattle.checks.proofs.Laws.{outside-no}
-use Rattle.encoding.specs.Matrix.{dataBlock, nodeBlock, nodeBlocks, nodesBuffer}
+use Rattle.encoding.specs.Matrix.{nodeBlock, nodesBuffer}
 use Rattle.encoding.specs.Encode.{encodeChecks, encodeAnswer, encoded}
 use Rattle.lists.specs.Lists.{someOutside, rises, placeIn, setLive, someMissing, liveOutside}
 use Rattle.planning.specs.Pairs.{largerNode, smallerNode}
@@ -147,7 +147,7 @@ _&_ : {A B : Type 0} → A → B → A × B
 a & b = (a, b)
 
 computed : Every Computed table
-unfolding started refusalLine encodeChecks parameterChecks firstMet nodesBuffer nodeBlocks nodeBlock dataBlock columnOf nodeCount xorBytes startChecks checkedBox boxChecks someOutside rises setLive noStart liveOutside someFrom planOf roundsFrom stepsFrom isRepaired smallerNode largerNode firstFrom areRelated smallerAt largerAt stepBytes lastRound nodesLeft countFrom thoseFrom someMissing stepsIn placeIn listFrom readBox nodesRead readChecks withBodies withBlock blockOf bodyChecks bodyOf writeChecks nodesChecks written outWritten boxOf bodiesOf stepChecks stepped nodesStepped listingOf answerOf listingIn firstLine stepLines stepLine lastLine field decimal digitCount
+unfolding started refusalLine encodeChecks parameterChecks firstMet nodesBuffer joined nodeBlock columnOf nodeCount xorBytes startChecks checkedBox boxChecks someOutside rises setLive noStart liveOutside someFrom planOf roundsFrom stepsFrom isRepaired smallerNode largerNode firstFrom areRelated smallerAt largerAt stepBytes lastRound nodesLeft countFrom thoseFrom someMissing stepsIn placeIn listFrom readBox nodesRead readChecks withBodies withBlock blockOf bodyChecks bodyOf writeChecks nodesChecks written outWritten boxOf bodiesOf stepChecks stepped nodesStepped listingOf answerOf listingIn firstLine stepLines stepLine lastLine field decimal digitCount
 computed =
     (refl, refl)
     & (refl, refl, (refl, refl, refl, refl))

@@ -1,11 +1,11 @@
 -- The k data blocks of an object, in the nodes whose column has a single bit (document 01, "Read out").
-use Prim.Native.Nat.{ℕ, zero, suc, _-_, _^_}
+use Prim.Native.Nat.{ℕ, _-_, _^_}
 use mathlib.Core.Bool.{Bool, not}
-use mathlib.Core.List.{List, [], _++_}
+use mathlib.Core.List.{List}
 use Rattle.base.specs.Ranges.{firstFrom}
 use Rattle.families.specs.declared.Family.{Family}
 use Rattle.families.specs.Families.{nodeOf}
-use Rattle.blocks.specs.Blocks.{blockOf}
+use Rattle.blocks.specs.Blocks.{joined, blockOf}
 use Rattle.lists.specs.Lists.{isLive}
 
 -- the node of data block i, from 1: its column is 2^(i − 1)
@@ -16,7 +16,6 @@ dataNode f k i = nodeOf f k (2 ^ (i - 1))
 unfoldable pub missingBlock : Family → ℕ → List Bool → ℕ
 missingBlock f k marks = firstFrom (λ i. not (isLive marks (dataNode f k i))) 1 k
 
--- the blocks of data blocks 1 to m, one after the other
-unfoldable pub dataBlocks : Family → ℕ → ℕ → List ℕ → ℕ → List ℕ
-dataBlocks f k L nodes zero = []
-dataBlocks f k L nodes (suc m) = dataBlocks f k L nodes m ++ blockOf L nodes (dataNode f k (suc m))
+-- data blocks 1 to m, from their nodes, one after the other
+abbrev pub dataBlocks : Family → ℕ → ℕ → List ℕ → ℕ → List ℕ
+dataBlocks f k L nodes = joined (λ i. blockOf L nodes (dataNode f k i))

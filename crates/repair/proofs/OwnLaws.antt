@@ -10,6 +10,7 @@ use borrow.Author.Tests.{eqb-true, not-false}
 use lib.Dec.{eqb}
 use lib.ListN.{length, set, length-set}
 use lib.Seq.{getD-set-same, getD-set-other}
+use Rattle.base.proofs.First.{first-zero}
 use Rattle.base.specs.Ranges.{someFrom}
 use Rattle.families.specs.declared.Family.{Family}
 use Rattle.families.specs.Families.{familyOf, KInRange, IsNode, columnOf}
@@ -19,6 +20,7 @@ use Rattle.blocks.specs.Inner.{InBuffer}
 use Rattle.blocks.proofs.BlockLaws.{in-buffer, blockOf-same, blockOf-other}
 use Rattle.blocks.proofs.PartLaws.{length-blockOf}
 use Rattle.blocks.proofs.XorBytes.{length-xorBytes}
+use Rattle.blocks.proofs.JoinedLaws.{same-joined}
 use Rattle.checks.specs.Checks.{firstMet}
 use Rattle.checks.proofs.Laws.{accepted}
 use Rattle.encoding.specs.Matrix.{nodeBlock, nodesBuffer}
@@ -45,7 +47,6 @@ use Rattle.repair.specs.RepairClaims.{asMove, LiveAreOwn}
 use Rattle.repair.proofs.StartLaws.{Known, known, Sized, sized}
 use Rattle.repair.proofs.StepLaws.{AcceptedStep, accepted-step, step-accepted}
 use Rattle.repair.proofs.ReadOutLaws.{read}
-use Rattle.repair.proofs.ListedLaws.{first-zero, same-blocks}
 
 -- ---- a session with one node more is still one that some start gives
 
@@ -342,5 +343,5 @@ module _ (object : List ℕ) where
       o .live (dataNode f (s .k) i) (d .is-node) (not-false _ (first-zero _ 1 (s .k) (omega arith) whole i l (omega arith)))
       ∙ sym (buffer-block f (s .k) (s .len) object (o .size) (dataNode f (s .k) i) (d .is-node)) in
       sym (read s nodes result e .buffer-is)
-      ∙ same-blocks f (s .k) (s .len) nodes (nodesBuffer f (s .k) (s .len) object) (s .k) at
+      ∙ same-joined (λ i. blockOf (s .len) nodes (dataNode f (s .k) i)) _ (s .k) at
       ∙ blocks-of-encoded f (s .k) (s .len) object range (o .size)

@@ -14,7 +14,7 @@ use Rattle.base.proofs.Tests.{or-neither}
 use Rattle.families.specs.declared.Family.{Family}
 use Rattle.families.specs.Families.{familyOf, IsNode}
 use Rattle.families.proofs.Laws.{few}
-use Rattle.base.proofs.First.{first-of, first-none, Found, found, first-least}
+use Rattle.base.proofs.First.{first-of, first-none, Found, found, first-least, first-zero}
 use Rattle.checks.specs.Checks.{firstMet}
 use Rattle.encoding.specs.Encode.{encodeAnswer, encoded}
 use Rattle.encoding.proofs.Answers.{accepted-call, written as encoded-is}
@@ -42,7 +42,6 @@ use Rattle.repair.specs.WholeWay.{Fits, FitsClaim, WriteLiveClaim, Bodie
 use Rattle.repair.proofs.Accepted.{start-accepted, check-accepted, read-accepted, write-accepted, run-accepted}
 use Rattle.repair.proofs.StartLaws.{known, nodes-0}
 use Rattle.repair.proofs.ReadOutLaws.{by-block, accepted-out, read}
-use Rattle.repair.proofs.ListedLaws.{first-zero}
 use Rattle.repair.proofs.RoundTripLaws.{accepted-write, box-written, box-checked, accepted-read}
 use Rattle.repair.proofs.Proved.{read-body-claim, written-body-claim, box-start-claim}
 use Rattle.repair.proofs.RepairsProved.{run-ends, own-claim}

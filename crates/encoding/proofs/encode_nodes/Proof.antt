@@ -10,8 +10,9 @@ use Rattle.families.specs.Families.{nodeCount, columnOf}
 use Rattle.families.proofs.Laws.{few}
 use Rattle.families.proofs.TableLaws.{table-at}
 use Rattle.blocks.specs.Blocks.{withBlock}
-use Rattle.encoding.specs.Matrix.{nodeBlock, nodeBlocks, nodesBuffer}
-use Rattle.encoding.specs.Inner.{BeforeNode}
+use Rattle.encoding.specs.Matrix.{nodeBlock, nodesBuffer}
+use Rattle.blocks.specs.Blocks.{joined}
+use Rattle.encoding.specs.Inner.{nodeBlocks, BeforeNode}
 use Rattle.encoding.proofs.Nodes.{inside, one-more}
 use native.Mathlib.Omega.{arith}
 use Rattle.encoding.proofs.encode_nodes.Statement.{statement}
@@ -52,7 +53,7 @@ column-is c =
     rw (f .columns .ensures) (table-at _ _ _ (b .range) (b .node))
 
 loop-holds : tie.Need-loop-holds Inv-loop μ-loop
-unfolding nodeBlocks
+unfolding joined
 loop-holds c = let e : Place tie.Start = search in ((omega arith, omega arith), (refl, rw (zero-mul (e .args .len))))
 
 loop-again : tie.Need-loop-again Inv-loop μ-loop

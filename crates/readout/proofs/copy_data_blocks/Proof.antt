@@ -8,7 +8,7 @@ use lib.ListN.{length, take}
 use lib.Seq.{take-all}
 use Rattle.families.specs.Families.{nodeCount}
 use Rattle.families.proofs.Laws.{short}
-use Rattle.blocks.specs.Blocks.{blockOf, withBlock}
+use Rattle.blocks.specs.Blocks.{joined, blockOf, withBlock}
 use Rattle.blocks.specs.Inner.{InBuffer}
 use Rattle.blocks.proofs.BlockLaws.{in-buffer}
 use Rattle.readout.specs.DataBlocks.{dataBlocks}
@@ -30,7 +30,7 @@ target : (c : tie.After-data-node Inv-loop μ-loop) → InBuffer (c .before .bef
 target c = in-buffer _ _ (c .before .before .before .before .before .args .k) _ (c .before .before .loop .inv .1 .0 ∙ c .before .before .before .before .before .pre .1 .1) (c .before .before .loop .inv .0 .0) (c .before .loop-test .taken)
 
 loop-holds : tie.Need-loop-holds Inv-loop μ-loop
-unfolding dataBlocks
+unfolding joined
 loop-holds c = ((omega arith, omega arith), (refl, rw (zero-mul (c .before .before .args .len))))
 
 data-node-requires : tie.Need-data-node-requires Inv-loop μ-loop
