@@ -12,6 +12,10 @@
  *   tetrahedron  the columns of nodes 1 to 14 are 1 2 4 8 5 3 6 7 10 12 14 9 11 13
  * Data block i alone is the node with column 1 << (i - 1): in simplex node 2^(i - 1), in the two others node i.
  *
+ * The caller chooses family, k and len, and cuts what it stores into objects of exactly k * len bytes. It pads the last one and keeps
+ * the true length: neither nodes nor boxes have a place for it. So many nodes may be lost, whichever they are, and all come back:
+ * 2^(k - 1) - 1 in simplex, k - 1 in weight-two, 6 in the tetrahedron.
+ *
  * Every number is taken as it comes: one that is out of range is refused, however large, and never cut.
  *
  * Buffers. Each pointer has to be to as many bytes as its length says, at any alignment. With a length of 0 it may be null: that is
@@ -72,7 +76,8 @@
 /*
  * Bytes of stack that are enough for any call, with its arguments and its answer. Measured on x86-64 and not proved: a run, called by
  * a program compiled without optimisation, touched 11784, and no other call as many. What a loader needs to bind memcpy and memset
- * at their first call, and what a sanitizer adds, comes on top.
+ * at their first call, what a sanitizer adds, and what the system keeps in a thread's stack come on top: with glibc a start and a run
+ * in one function did not fit in a thread's stack of 16384 bytes, its PTHREAD_STACK_MIN, and did in one of 20480.
  */
 #define MOGTRIZ_MOST_STACK 12288
 
@@ -109,7 +114,10 @@ enum {
 #undef MOGTRIZ_NUMBERED
 };
 
-/* A call whose answer has a refusal's number: the compiler warns where it is ignored, gcc in C even where it is cast to void. */
+/*
+ * A call whose answer has a refusal's number: the compiler warns where it is ignored, gcc before C23 and C++17 even where it is cast
+ * to void.
+ */
 #if (defined(__cplusplus) && __cplusplus >= 201703L) || (defined(__STDC_VERSION__) && __STDC_VERSION__ >= 202311L)
 #define MOGTRIZ_ANSWERS [[nodiscard]]
 #elif defined(__GNUC__)
@@ -155,6 +163,9 @@ uint8_t mogtriz_related(size_t family, size_t k, size_t a, size_t b, size_t c);
  * A session: a family, k and len, and a mark for each node number, 1 live and 0 missing; those for 0 and above n are never
  * live. It goes in by value and comes back by value. Any content may be handed in: where no start gives it (a number out of
  * range, a mark for 0 or above n that is live, or a mark that is neither 0 nor 1) the answer is 13.
+ *
+ * After an encode every node is at hand: its session is a start with the list 1 to n. A node that is lost or found damaged later
+ * becomes missing when its mark is set to 0.
  */
 typedef struct {
     size_t family;
@@ -176,7 +187,10 @@ typedef struct {
     mogtriz_session session;
 } mogtriz_written;
 
-/* What reading out gives: 0, or the refusal's number, and with 14 the lowest data block whose node is missing. */
+/*
+ * What reading out gives: 0, or the refusal's number, and with 14 the lowest data block whose node is missing, else 0; the session as
+ * it was handed in.
+ */
 typedef struct {
     uint8_t refusal;
     size_t block;
@@ -223,7 +237,10 @@ MOGTRIZ_CALL mogtriz_started mogtriz_start(size_t family, size_t k, size_t len, 
  */
 MOGTRIZ_CALL mogtriz_started mogtriz_check(const uint8_t *box, size_t box_len);
 
-/* A box read into a nodes buffer: its checks, then 6 where nodes_len is not n * len. Places of missing nodes keep their bytes. */
+/*
+ * A box read into a nodes buffer: its checks, then 6 where nodes_len is not n * len. Places of missing nodes keep their bytes, so that
+ * several boxes of one object can be read into one buffer; a start with the nodes of all of them then gives the session.
+ */
 MOGTRIZ_CALL mogtriz_started mogtriz_read(const uint8_t *box, size_t box_len, uint8_t *nodes, size_t nodes_len);
 
 /* The body of one node, as a part of the box: its checks, then 4, and 12 where the node is not in the box. */
@@ -238,7 +255,7 @@ MOGTRIZ_CALL mogtriz_written mogtriz_write(mogtriz_session session, const uint8_
 
 /*
  * The k data blocks, from the nodes that hold one each. Gives 0 or: 13, 6 where nodes_len is not n * len or object_len is not
- * k * len, 14.
+ * k * len, 14. With 14 the data blocks whose nodes are live still stand in the places of these.
  */
 MOGTRIZ_CALL mogtriz_read_out_answer mogtriz_read_out(mogtriz_session session, const uint8_t *nodes, size_t nodes_len,
                                                       uint8_t *object, size_t object_len);
@@ -261,9 +278,9 @@ MOGTRIZ_CALL mogtriz_repairs mogtriz_plan(mogtriz_session session, uint8_t *out,
 
 /*
  * The plan carried out on the nodes buffer; the next session has the repaired nodes live. Blocks of live nodes and places of
- * nodes left keep their bytes; where there are any left the run is accepted all the same, and `left` says how many. A live block
- * is taken to be what it says: damage to it is not noticed, and goes into the blocks repaired from it. Gives 0 or: 13, 6 where
- * nodes_len is not n * len.
+ * nodes left keep their bytes; where there are any left the run is accepted all the same, `left` says how many, and the marks of the
+ * next session say which. A live block is taken to be what it says: damage to it is not noticed, and goes into the blocks repaired
+ * from it. Gives 0 or: 13, 6 where nodes_len is not n * len.
  */
 MOGTRIZ_CALL mogtriz_repairs mogtriz_run(mogtriz_session session, uint8_t *nodes, size_t nodes_len);
 
