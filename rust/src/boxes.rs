@@ -61,7 +61,8 @@ impl Session {
     }
 
     /// A box read into a nodes buffer of exactly n × L bytes, which gives its session. Each body goes to its node's place;
-    /// places of missing nodes keep their bytes.
+    /// places of missing nodes keep their bytes, so that several boxes of one object can be read into one buffer. A
+    /// [`start`](Session::start) with the nodes of all of them then gives the session.
     ///
     /// How long the buffer has to be is known from [`check`](Session::check) and [`nodes_len`](Session::nodes_len).
     ///
@@ -128,7 +129,8 @@ impl Session {
     ///
     /// - 13, [`Refusal::NoSuchSession`]
     /// - 6, [`Refusal::BufferLength`]: the nodes or the object buffer is not of its length
-    /// - 14, [`Refusal::BlockMissing`]: with the lowest data block whose node is missing
+    /// - 14, [`Refusal::BlockMissing`]: with the lowest data block whose node is missing; the data blocks whose nodes are live
+    ///   still stand in the places of these
     ///
     /// ```
     /// use mogtriz::{Refusal, SIMPLEX, Session};

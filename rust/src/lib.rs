@@ -1,14 +1,18 @@
 //! Data blocks spread over nodes, each node the bytewise XOR of some of them; boxes of nodes; lost nodes repaired as
 //! the XOR of two others.
 //!
-//! An object is k data blocks of L bytes, block 1 first. Nodes have numbers 1 to n; node j's block is the part of the
-//! nodes buffer from (j − 1) × L up to j × L.
+//! An object is k data blocks of L bytes, block 1 first; L is 1 to 4,096. Nodes have numbers 1 to n; node j's block is the
+//! part of the nodes buffer from (j − 1) × L up to j × L. In the last column are the nodes that may be lost, whichever they
+//! are, so that all come back.
 //!
-//! | family | code | k | n |
-//! |---|---|---|---|
-//! | 1, [`SIMPLEX`] | simplex | 2 to 8 | 2^k − 1 |
-//! | 2, [`WEIGHT_TWO`] | weight-two | 2 to 22 | k(k + 1) / 2 |
-//! | 3, [`TETRAHEDRON`] | tetrahedron | 4 | 14 |
+//! | family | code | k | n | may be lost |
+//! |---|---|---|---|---|
+//! | 1, [`SIMPLEX`] | simplex | 2 to 8 | 2^k − 1 | 2^(k − 1) − 1 |
+//! | 2, [`WEIGHT_TWO`] | weight-two | 2 to 22 | k(k + 1) / 2 | k − 1 |
+//! | 3, [`TETRAHEDRON`] | tetrahedron | 4 | 14 | 6 |
+//!
+//! The caller cuts what it stores into objects of exactly k × L bytes, pads the last one and keeps the true length: neither
+//! nodes nor boxes have a place for it.
 //!
 //! # From an object to nodes and back
 //!
@@ -46,7 +50,8 @@
 //!
 //! A [`Session`] says which nodes are live. [`step`](Session::step) and [`run`](Session::run) repair nodes and borrow it
 //! as mutable, to mark them live; [`plan`](Session::plan), [`write`](Session::write) and [`read_out`](Session::read_out)
-//! only look at it.
+//! only look at it. After an encode every node is at hand: a [`start`](Session::start) with the list 1 to n says so. For a node
+//! that is lost or found damaged later, start anew without it.
 //!
 //! # Buffers and features
 //!

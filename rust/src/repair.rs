@@ -17,7 +17,7 @@ pub struct Repairs {
     /// In how many rounds.
     pub rounds: usize,
     /// How many nodes are missing once all steps are made: those at which two objects alike on all live nodes can
-    /// differ. They are no refusal.
+    /// differ. They are no refusal. After a run [`missing_nodes`](Session::missing_nodes) says which they are.
     pub left: usize,
 }
 
