@@ -3,10 +3,15 @@
 # Usage: bash install.sh PREFIX, after `rt staticlib mogtriz`. With DESTDIR in the environment the three go below that folder,
 # as for a package, and still name PREFIX.
 set -euo pipefail
-if [ $# -ne 1 ] || [ -z "$1" ]; then
+usage() {
     echo "usage: bash install.sh PREFIX" >&2
     exit 2
-fi
+}
+[ $# -eq 1 ] || usage
+# nothing, a word that is meant for an option, or a home folder that the shell left as it stood
+case $1 in
+    "" | -* | "~"*) usage ;;
+esac
 # absolute PATH: the path from the root, without a slash at its end; both are meant from the folder of the caller
 absolute() {
     case $1 in

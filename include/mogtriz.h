@@ -14,7 +14,7 @@
  *
  * The caller chooses family, k and len, and cuts what it stores into objects of exactly k * len bytes. It pads the last one and keeps
  * the true length: neither nodes nor boxes have a place for it. So many nodes may be lost, whichever they are, and all come back:
- * 2^(k - 1) - 1 in simplex, k - 1 in weight-two, 6 in the tetrahedron.
+ * 2^(k - 1) - 1 in simplex, k - 1 in weight-two, 6 in the tetrahedron. These three are tested and not proved.
  *
  * Every number is taken as it comes: one that is out of range is refused, however large, and never cut.
  *

@@ -59,6 +59,8 @@ refused
 refused ""
 refused "$room/a" "$room/b"
 refused "$room/a b"
+refused --help
+refused "~/a"
 refused "$room/a#b"
 # no library has been made beside this one
 mkdir "$room/bare"

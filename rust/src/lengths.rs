@@ -4,7 +4,22 @@ use crate::{Refusal, Session, raw};
 /// How many bytes stand before a box's node numbers.
 const HEAD: usize = 8;
 
-/// Room in bytes for the steps of any plan: four for each of 255 nodes, the most that a family has.
+/// The largest L, the length of a block in bytes; the least is 1.
+///
+/// ```
+/// use mogtriz::{MOST_LEN, Refusal, SIMPLEX, object_len};
+/// assert_eq!(object_len(SIMPLEX, 3, MOST_LEN), Ok(3 * MOST_LEN));
+/// assert_eq!(object_len(SIMPLEX, 3, MOST_LEN + 1), Err(Refusal::LenOutOfRange));
+/// ```
+pub const MOST_LEN: usize = 4096;
+
+/// The largest k of any family, that of weight-two.
+pub const MOST_K: usize = 22;
+
+/// The largest n of any family with any k, that of simplex with k 8.
+pub const MOST_NODES: usize = 255;
+
+/// Room in bytes for the steps of any plan: four for each of [`MOST_NODES`].
 ///
 /// ```
 /// let session = mogtriz::Session::start(mogtriz::SIMPLEX, 8, 1, &[1, 2, 4, 8, 16, 32, 64, 128])?;
@@ -12,7 +27,7 @@ const HEAD: usize = 8;
 /// assert_eq!(session.plan(&mut out)?.repairs.steps, 247);
 /// # Ok::<(), mogtriz::Refusal>(())
 /// ```
-pub const PLAN_ROOM: usize = 4 * 255;
+pub const PLAN_ROOM: usize = 4 * MOST_NODES;
 
 /// n, the number of nodes of a family with k data blocks.
 ///
@@ -64,7 +79,7 @@ pub fn nodes_len(family: usize, k: usize, len: usize) -> Result<usize, Refusal> 
 ///
 /// ```
 /// use mogtriz::{Refusal, SIMPLEX, object_len};
-/// assert_eq!(object_len(SIMPLEX, 3, 4096), Ok(3 * 4096));
+/// assert_eq!(object_len(SIMPLEX, 3, 1000), Ok(3000));
 /// assert_eq!(object_len(SIMPLEX, 3, 4097), Err(Refusal::LenOutOfRange));
 /// ```
 pub fn object_len(family: usize, k: usize, len: usize) -> Result<usize, Refusal> {

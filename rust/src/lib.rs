@@ -1,9 +1,9 @@
 //! Data blocks spread over nodes, each node the bytewise XOR of some of them; boxes of nodes; lost nodes repaired as
 //! the XOR of two others.
 //!
-//! An object is k data blocks of L bytes, block 1 first; L is 1 to 4,096. Nodes have numbers 1 to n; node j's block is the
+//! An object is k data blocks of L bytes, block 1 first; L is 1 to [`MOST_LEN`]. Nodes have numbers 1 to n; node j's block is the
 //! part of the nodes buffer from (j − 1) × L up to j × L. In the last column are the nodes that may be lost, whichever they
-//! are, so that all come back.
+//! are, so that all come back; this is tested and not proved.
 //!
 //! | family | code | k | n | may be lost |
 //! |---|---|---|---|---|
@@ -81,7 +81,9 @@ mod version;
 
 pub use boxes::body;
 pub use codes::{SIMPLEX, TETRAHEDRON, WEIGHT_TWO, column, encode, node_of_column, related};
-pub use lengths::{PLAN_ROOM, box_len, node_count, nodes_len, object_len};
+pub use lengths::{
+    MOST_K, MOST_LEN, MOST_NODES, PLAN_ROOM, box_len, node_count, nodes_len, object_len,
+};
 pub use plan::{Plan, Step};
 pub use refusal::Refusal;
 pub use repair::Repairs;

@@ -1,4 +1,5 @@
 //! Why a call is turned away.
+use crate::MOST_LEN;
 use core::error::Error;
 use core::fmt;
 
@@ -18,7 +19,7 @@ pub enum Refusal {
     FamilyUnknown,
     /// 2: k is outside its family's range.
     KOutOfRange,
-    /// 3: L is 0 or above 4,096.
+    /// 3: L is 0 or above [`MOST_LEN`].
     LenOutOfRange,
     /// 4: a node number is 0 or above n.
     NoSuchNode,
@@ -132,7 +133,7 @@ impl Refusal {
         match self {
             Refusal::FamilyUnknown => "the family is not 1, 2 or 3",
             Refusal::KOutOfRange => "k is outside its family's range",
-            Refusal::LenOutOfRange => "the block length is 0 or above 4096",
+            Refusal::LenOutOfRange => "the block length is 0 or above",
             Refusal::NoSuchNode => "a node number is 0 or above the last node's",
             Refusal::NotRising => "a list of nodes does not strictly rise",
             Refusal::BufferLength => "a buffer is not of the length that the call needs",
@@ -154,6 +155,7 @@ impl fmt::Display for Refusal {
     fn fmt(&self, f: &mut fmt::Formatter) -> fmt::Result {
         write!(f, "refused {}: {}", self.number(), self.reason())?;
         match self {
+            Refusal::LenOutOfRange => write!(f, " {MOST_LEN}"),
             Refusal::BlockMissing { block } if *block > 0 => write!(f, ", block {block}"),
             _ => Ok(()),
         }

@@ -50,11 +50,11 @@ impl Session {
     /// - 5, [`Refusal::NotRising`]
     ///
     /// ```
-    /// use mogtriz::{Refusal, SIMPLEX, Session};
-    /// let session = Session::start(SIMPLEX, 3, 4096, &[1, 2, 7])?;
+    /// use mogtriz::{MOST_LEN, Refusal, SIMPLEX, Session};
+    /// let session = Session::start(SIMPLEX, 3, MOST_LEN, &[1, 2, 7])?;
     /// assert!(session.is_live(7) && !session.is_live(3));
     ///
-    /// assert_eq!(Session::start(SIMPLEX, 3, 4097, &[1, 2, 7]), Err(Refusal::LenOutOfRange));
+    /// assert_eq!(Session::start(SIMPLEX, 3, MOST_LEN + 1, &[1, 2, 7]), Err(Refusal::LenOutOfRange));
     /// # Ok::<(), mogtriz::Refusal>(())
     /// ```
     pub fn start(family: usize, k: usize, len: usize, list: &[u8]) -> Result<Session, Refusal> {

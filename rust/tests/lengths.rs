@@ -1,11 +1,11 @@
 //! The lengths are those that the calls ask for: a buffer of just so many bytes is served, and one byte more or less is
 //! turned away.
 use mogtriz::{
-    MARKS, PLAN_ROOM, Refusal, SIMPLEX, Session, Step, TETRAHEDRON, WEIGHT_TWO, box_len, encode,
-    node_count, nodes_len, object_len,
+    MARKS, MOST_LEN, PLAN_ROOM, Refusal, SIMPLEX, Session, Step, TETRAHEDRON, WEIGHT_TWO, box_len,
+    encode, node_count, nodes_len, object_len,
 };
 
-const LENGTHS: [usize; 4] = [1, 2, 255, 4096];
+const LENGTHS: [usize; 4] = [1, 2, 255, MOST_LEN];
 
 fn every_code() -> Vec<(usize, usize)> {
     let simplex = (2..=8).map(|k| (SIMPLEX, k));
@@ -84,7 +84,7 @@ fn numbers_out_of_range_are_refused_as_by_a_start() {
     let large = 1 << 32;
     let families = [0, 4, 257, large + 1, usize::MAX];
     let ks = [0, 1, 9, 23, 258, large + 2, usize::MAX];
-    let lens = [0, 4097, 65_537, large + 1, usize::MAX];
+    let lens = [0, MOST_LEN + 1, 65_537, large + 1, usize::MAX];
     for family in [SIMPLEX, WEIGHT_TWO, TETRAHEDRON]
         .into_iter()
         .chain(families)
@@ -93,7 +93,7 @@ fn numbers_out_of_range_are_refused_as_by_a_start() {
             let start = Session::start(family, k, 1, &[]);
             let n = start.and_then(|session| session.node_count());
             assert_eq!(node_count(family, k), n, "family {family} k {k}");
-            for len in [1, 4096].into_iter().chain(lens) {
+            for len in [1, MOST_LEN].into_iter().chain(lens) {
                 let wanted = Session::start(family, k, len, &[]).map(|_| ());
                 let place = format!("family {family} k {k} L {len}");
                 assert_eq!(object_len(family, k, len).map(|_| ()), wanted, "{place}");

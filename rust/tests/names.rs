@@ -1,8 +1,10 @@
-//! The header's names go with the package's: families and room for a plan have the same numbers, and each refusal has the same
+//! The header's names go with the package's: families, limits and room for a plan have the same numbers, and each refusal has the same
 //! number, name and text.
 mod in_c;
 
-use mogtriz::{MARKS, PLAN_ROOM, Refusal, SIMPLEX, TETRAHEDRON, WEIGHT_TWO};
+use mogtriz::{
+    MARKS, MOST_K, MOST_LEN, MOST_NODES, PLAN_ROOM, Refusal, SIMPLEX, TETRAHEDRON, WEIGHT_TWO,
+};
 
 /// `FAMILY_UNKNOWN` of `FamilyUnknown`, and of `BlockMissing { .. }` the name alone.
 fn name_in_c(refusal: Refusal) -> String {
@@ -39,11 +41,14 @@ fn refusals_in_rust_are_those_in_c() {
 }
 
 #[test]
-fn families_and_room_in_rust_are_those_in_c() {
+fn families_limits_and_room_in_rust_are_those_in_c() {
     let lines = r#"
     printf("%d %d %d\n", MOGTRIZ_SIMPLEX, MOGTRIZ_WEIGHT_TWO, MOGTRIZ_TETRAHEDRON);
     printf("%d %d\n", MOGTRIZ_PLAN_ROOM, MOGTRIZ_MOST_NODES + 1);
+    printf("%d %d %d\n", MOGTRIZ_MOST_LEN, MOGTRIZ_MOST_K, MOGTRIZ_MOST_NODES);
 "#;
-    let wanted = format!("{SIMPLEX} {WEIGHT_TWO} {TETRAHEDRON}\n{PLAN_ROOM} {MARKS}\n");
+    let wanted = format!(
+        "{SIMPLEX} {WEIGHT_TWO} {TETRAHEDRON}\n{PLAN_ROOM} {MARKS}\n{MOST_LEN} {MOST_K} {MOST_NODES}\n"
+    );
     assert_eq!(wanted, in_c::printed_by("families", lines));
 }

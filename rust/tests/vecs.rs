@@ -1,14 +1,15 @@
 //! The calls that give a `Vec` give what the calls with lent buffers do, refusals too.
 #![cfg(feature = "alloc")]
 use mogtriz::{
-    MARKS, PLAN_ROOM, Refusal, SIMPLEX, Session, TETRAHEDRON, WEIGHT_TWO, encode, encode_to_vec,
+    MARKS, MOST_LEN, PLAN_ROOM, Refusal, SIMPLEX, Session, TETRAHEDRON, WEIGHT_TWO, encode,
+    encode_to_vec,
 };
 
 const CODES: [(usize, usize, usize); 4] = [
     (SIMPLEX, 3, 8),
     (SIMPLEX, 8, 1),
     (WEIGHT_TWO, 22, 5),
-    (TETRAHEDRON, 4, 4096),
+    (TETRAHEDRON, 4, MOST_LEN),
 ];
 
 fn bytes(count: usize) -> Vec<u8> {
