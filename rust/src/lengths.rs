@@ -80,7 +80,7 @@ pub fn nodes_len(family: usize, k: usize, len: usize) -> Result<usize, Refusal> 
 /// ```
 /// use mogtriz::{Refusal, SIMPLEX, object_len};
 /// assert_eq!(object_len(SIMPLEX, 3, 1000), Ok(3000));
-/// assert_eq!(object_len(SIMPLEX, 3, 4097), Err(Refusal::LenOutOfRange));
+/// assert_eq!(object_len(SIMPLEX, 3, 0), Err(Refusal::LenOutOfRange));
 /// ```
 pub fn object_len(family: usize, k: usize, len: usize) -> Result<usize, Refusal> {
     check_numbers(family, k, len)?;

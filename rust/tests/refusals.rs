@@ -1,7 +1,7 @@
 //! Every refusal is met by some call, with its number and its own sentence, and a call that is turned away leaves its
 //! session.
 use mogtriz::raw::{self, MOST_REFUSAL};
-use mogtriz::{MARKS, Refusal, SIMPLEX, Session, body};
+use mogtriz::{MARKS, MOST_LEN, Refusal, SIMPLEX, Session, body};
 use std::collections::BTreeSet;
 
 fn session(live: &[u8]) -> Session {
@@ -29,7 +29,7 @@ fn one_of_each() -> [Refusal; MOST_REFUSAL] {
     [
         start(usize::MAX, 3, 1, &[]),
         start(SIMPLEX, 9, 1, &[]),
-        start(SIMPLEX, 3, 4097, &[]),
+        start(SIMPLEX, 3, MOST_LEN + 1, &[]),
         start(SIMPLEX, 3, 1, &[8]),
         start(SIMPLEX, 3, 1, &[3, 3]),
         session(&[]).run(&mut []).unwrap_err(),

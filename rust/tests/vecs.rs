@@ -71,7 +71,7 @@ fn boxes_are_written_and_read_alike() -> Result<(), Refusal> {
 fn boxes_are_refused_alike() {
     for session in CODES.into_iter().flat_map(sessions).chain([of_no_start()]) {
         let nodes = bytes(session.nodes_len().unwrap_or(0));
-        let mut out = vec![0; 8 + 255 * 4097];
+        let mut out = vec![0; 8 + 255 * (MOST_LEN + 1)];
         let long = [1; 300];
         for nodes in [&nodes[..], &[0; 2]] {
             for list in [&[][..], &[0], &[255], &[2, 1], &[1, 2], &long, &[0; 300]] {

@@ -1,8 +1,12 @@
--- The claim of specs/Claims.antt.
+-- The claims of specs/Claims.antt.
 -- Assumes nothing.
+use lib.ListN.{length}
 use Rattle.families.specs.Families.{nodeCount}
+use Rattle.checks.proofs.Laws.{parameters-in}
 use Rattle.encoding.specs.Matrix.{nodesBuffer}
-use Rattle.encoding.specs.Claims.{MatrixClaim}
+use Rattle.encoding.specs.Encode.{encodeAnswer}
+use Rattle.encoding.specs.Claims.{MatrixClaim, EncodeClaim}
+use Rattle.encoding.proofs.Answers.{by-none, accepted-call}
 use Rattle.encoding.proofs.Linear.{node-block-unit, node-block-xor}
 use Rattle.encoding.proofs.Nodes.{length-nodeBlocks, buffer-block, related-block, related-zero}
 
@@ -17,3 +21,10 @@ matrix-claim f k L object h =
       related = related-block f k L object h;
       cancel = related-zero f k L object h;
     }
+
+pub encode-claim : EncodeClaim
+unfolding encodeAnswer
+encode-claim family k L object nodes = (
+  (λ e. let a = accepted-call family k L object nodes e in (a .range, a .object-size, a .nodes-size)),
+  (λ p. by-none family k L (length object) (length nodes) (parameters-in family k L (p .0)) (p .1) (p .2)),
+)

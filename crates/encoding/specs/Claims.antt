@@ -1,14 +1,18 @@
--- What is proved of the generator matrix, for every family, k, object and block length L; proofs/Proved.antt has the proof.
+-- What is proved of the generator matrix, for every family, k, object and block length L, and when encode is accepted;
+-- proofs/Proved.antt has the proofs.
 use mathlib.Core.Path.{_≡_}
 use mathlib.Core.Bool.{true}
 use mathlib.Core.List.{List}
+use mathlib.Core.Logic.{_↔_}
 use Prim.Native.Nat.{ℕ, suc, _*_, _^_, _<_}
 use lib.Bits.{bitXor}
 use lib.ListN.{length, replicate}
 use Rattle.families.specs.declared.Family.{Family}
-use Rattle.families.specs.Families.{IsNode, nodeCount, columnOf, areRelated}
+use Rattle.families.specs.Families.{familyOf, IsNode, nodeCount, columnOf, areRelated}
+use Rattle.checks.specs.Claims.{InRange}
 use Rattle.blocks.specs.Blocks.{xorBytes, blockOf}
 use Rattle.encoding.specs.Matrix.{nodeBlock, nodesBuffer}
+use Rattle.encoding.specs.Encode.{encodeAnswer}
 
 -- of an object of k blocks of L bytes
 pub record MatrixClaims (f : Family) (k L : ℕ) (object : List ℕ) : Type 0 where
@@ -28,3 +32,8 @@ pub record MatrixClaims (f : Family) (k L : ℕ) (object : List ℕ) : Type 0 wh
 -- for every family, k and block length, above the largest L too
 abbrev pub MatrixClaim : Type 0
 MatrixClaim = (f : Family) (k L : ℕ) (object : List ℕ) → length object ≡ k * L → MatrixClaims f k L object
+
+-- encode is accepted exactly where the family, k and L are in range, the object is k × L bytes and the nodes buffer n × L bytes
+abbrev pub EncodeClaim : Type 0
+EncodeClaim = (family k L : ℕ) (object nodes : List ℕ)
+    → (encodeAnswer family k L object nodes ≡ 0) ↔ (InRange family k L × (length object ≡ k * L) × (length nodes ≡ nodeCount (familyOf family) k * L))

@@ -15,3 +15,4 @@ pub mod LeftOverProved
 pub mod FitsLaws
 pub mod WholeWayProved
 pub mod RefusalsProved
+pub mod AcceptsProved

@@ -1,23 +1,25 @@
--- What is proved of steps and runs besides their own equations and demand 3; proofs/RepairsProved.antt has the proofs.
+-- What is proved of a session's operations besides their own equations and demand 3; proofs/RepairsProved.antt and
+-- proofs/AcceptsProved.antt have the proofs.
 use mathlib.Core.Path.{_≡_}
 use mathlib.Core.Bool.{true, false}
 use mathlib.Core.List.{List, map}
 use mathlib.Core.Logic.{_↔_}
-use Prim.Native.Nat.{ℕ, _*_}
+use Prim.Native.Nat.{ℕ, _*_, _≤_}
 use lib.ListN.{length}
 use Rattle.families.specs.Families.{familyOf, IsNode, columnOf}
 use Rattle.blocks.specs.Blocks.{blockOf}
 use Rattle.encoding.specs.Matrix.{nodeBlock}
-use Rattle.lists.specs.Lists.{isLive}
+use Rattle.lists.specs.Lists.{someOutside, rises, isLive, someMissing}
 use Rattle.planning.specs.Claims.{CanMake}
 use Rattle.planning.specs.Pairs.{NoPairLeft}
 use Rattle.planning.specs.Plan.{Step}
 use Rattle.planning.specs.Made.{stepsIn}
 use Rattle.repair.specs.declared.Session.{Session}
 use Rattle.repair.specs.Session.{nodeCountOf, noStart}
-use Rattle.repair.specs.Step.{stepped}
+use Rattle.repair.specs.Boxed.{writtenLength, written}
+use Rattle.repair.specs.Step.{stepped, nodesStepped}
 use Rattle.repair.specs.Repairs.{planIn, planned, outPlanned, ran, nodesRan}
-use Rattle.repair.specs.ReadOut.{readOut, objectOut}
+use Rattle.repair.specs.ReadOut.{missingIn, readOut, objectOut}
 use Rattle.repair.specs.Calls.{Move, step, sessionAfter, stateAfter}
 
 -- ---- step
@@ -29,6 +31,31 @@ StepClaim = (s : Session) (nodes : List ℕ) (j a b : ℕ)
     → (stepped s nodes j a b .refusal ≡ 0)
     ↔ ((noStart s ≡ false) × (length nodes ≡ nodeCountOf s * s .len)
     × CanMake (familyOf (s .family)) (s .k) (s .live) (record { round = 0; node = j; smaller = a; larger = b }))
+
+-- a step leaves the blocks of all other nodes
+abbrev pub StepKeepsClaim : Type 0
+StepKeepsClaim = (s : Session) (nodes : List ℕ) (j a b : ℕ) → stepped s nodes j a b .refusal ≡ 0
+    → (i : ℕ) → IsNode (familyOf (s .family)) (s .k) i → (i ≡ j → ⊥) → blockOf (s .len) (nodesStepped s nodes j a b) i ≡ blockOf (s .len) nodes i
+
+-- ---- plan, run, write and read out
+
+-- some start gives the session, and the nodes buffer is n × L bytes
+abbrev pub Suits : Session → List ℕ → Type 0
+Suits s nodes = (noStart s ≡ false) × (length nodes ≡ nodeCountOf s * s .len)
+
+-- each is accepted exactly where it says
+pub record Accepts (s : Session) : Type 0 where
+  -- a plan: the destination has four bytes for each step
+  pub plan : (out : List ℕ) → (planned s out .refusal ≡ 0) ↔ ((noStart s ≡ false) × (4 * length (planIn s) ≤ length out))
+  pub run : (nodes : List ℕ) → (ran s nodes .refusal ≡ 0) ↔ Suits s nodes
+  -- a write: the list has live nodes of 1 to n alone and strictly rises, and the box fits its destination
+  pub write : (nodes list out : List ℕ) → (written s nodes list out .refusal ≡ 0)
+      ↔ (Suits s nodes × (someOutside (nodeCountOf s) list ≡ false) × (rises list ≡ true) × (someMissing (s .live) list ≡ false) × (writtenLength s list ≤ length out))
+  -- read out: the object is k × L bytes, and no data block's node is missing
+  pub read-out : (nodes object : List ℕ) → (readOut s nodes object .refusal ≡ 0) ↔ (Suits s nodes × (length object ≡ s .k * s .len) × (missingIn s ≡ 0))
+
+abbrev pub AcceptsClaim : Type 0
+AcceptsClaim = (s : Session) → Accepts s
 
 -- ---- marks for 0 and above n are never live
 

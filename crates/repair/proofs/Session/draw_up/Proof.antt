@@ -16,19 +16,26 @@ use Rattle.repair.proofs.RepairsLaws.{made-few}
 use Rattle.repair.proofs.Session.draw_up.Statement.{statement}
 use Rattle.repair.proofs.Session.draw_up.Tie as tie
 
+marks : (s : tie.Start) → length (s .args .self .live) ≡ 256
+marks s = search needs
+
 make-plan-requires : tie.Need-make-plan-requires
 make-plan-requires c κs =
-    let r = subst (λ (x : Family). KInRange x (c .before .before .before .before .args .self .k)) (sym (c .before .before .family-of .ensures)) (known _ (c .before .before .before .before .pre .0) .range .blocks) in
-    (r, omega (arith, few _ _ r, c .before .before .before .before .pre .1))
+    let s : tie.Start = search in
+    let f : tie.After-family-of = search in
+    let r = subst (λ (x : Family). KInRange x (s .args .self .k)) (sym (f .family-of .ensures)) (known _ (s .pre .0) .range .blocks) in
+    (r, omega (arith, few _ _ r, s .pre .1))
 
 returns : tie.Need-returns
 returns c =
-    let g = c .before .before .before .before .before .before .before .args in
-    let e = c .before .before .before .before .before .family-of .ensures in
-    let m = c .before .before .make-plan in
-    let is = m .ensures .0 ∙ ap (λ (f : Family). plannedOf f (g .self .k) (g .self .live)) e in
-    let size : length (g .self .live) ≡ 256 = search needs in (
-      (is, made-few (g .self) (m .result) is (known _ (c .before .before .before .before .before .before .before .pre .0) .range .blocks) size),
+    let s : tie.Start = search in
+    let f : tie.After-family-of = search in
+    let p : tie.After-make-plan = search in
+    let g = s .args in
+    let e = f .family-of .ensures in
+    let m = p .make-plan in
+    let is = m .ensures .0 ∙ ap (λ (f : Family). plannedOf f (g .self .k) (g .self .live)) e in (
+      (is, made-few (g .self) (m .result) is (known _ (s .pre .0) .range .blocks) (marks s)),
       m .ensures .1 ∙ ap (λ (f : Family). stepBytes (planOf f (g .self .k) (g .self .live)) ++ drop (4 * length (planOf f (g .self .k) (g .self .live))) (g .steps .now)) e,
     )
 

@@ -29,22 +29,30 @@ bounds s list m o r =
     (l, bytes-most (length list) 255 l (m .range))
 
 small : (c : tie.After-struct-known) → let g = c .before .before .before .before .args in (length (g .list .now) ≤ 255) × (length (g .list .now) * g .self .len ≤ 255 * mostL)
-small c = let p = c .before .before .before .before .pre in bounds _ _ (known _ (p .0 .0)) (p .1 .0) (p .1 .1)
+small c =
+    let s : tie.Start = search in
+    let p = s .pre in
+    bounds _ _ (known _ (p .0 .0)) (p .1 .0) (p .1 .1)
 
 returns : tie.Need-returns
 returns c = (simp (lt-ltb _ _ (c .if1 .taken)), simp (lt-ltb _ _ (c .if1 .taken)))
 
 write-box-requires : tie.Need-write-box-requires
 write-box-requires c κs =
-    let g = c .before .before .before .before .before .before .args in
-    let p = c .before .before .before .before .before .before .pre in
+    let s : tie.Start = search in
+    let e : tie.Else1 = search in
+    let g = s .args in
+    let p = s .pre in
     let m = known (g .self) (p .0 .0) in
     let b = bounds (g .self) (g .list .now) m (p .1 .0) (p .1 .1) in
     let k = short _ _ (m .range .blocks) in
-    ((omega (arith, m .range .last), omega (arith, k), omega (arith, m .range .most), omega (arith, b .0)), (list-in (g .self .len) (nodeCountOf (g .self)) (g .nodes .now) (g .list .now) (p .0 .1) (p .1 .0), c .before .if1 .left))
+    ((omega (arith, m .range .last), omega (arith, k), omega (arith, m .range .most), omega (arith, b .0)), (list-in (g .self .len) (nodeCountOf (g .self)) (g .nodes .now) (g .list .now) (p .0 .1) (p .1 .0), e .if1 .left))
 
 returns-2 : tie.Need-returns-2
-returns-2 c = (simp (le-ltb _ _ (c .before .before .before .before .if1 .left)), simp (le-ltb _ _ (c .before .before .before .before .if1 .left)) (c .before .before .write-box .ensures))
+returns-2 c =
+    let e : tie.Else1 = search in
+    let w : tie.After-write-box = search in
+    (simp (le-ltb _ _ (e .if1 .left)), simp (le-ltb _ _ (e .if1 .left)) (w .write-box .ensures))
 
 pub write-listed-spec : {M : Type 1} → statement M
 write-listed-spec =
