@@ -3,7 +3,7 @@
 use mathlib.Core.Path.{_≡_, refl, sym, ap, _∙_, subst}
 use mathlib.Core.Bool.{false}
 use mathlib.Core.List.{List, [], _∷_, _++_, append-nil}
-use Prim.Native.Nat.{ℕ, _*_, _/_, _≤_}
+use Prim.Native.Nat.{ℕ, _-_, _*_, _/_, _≤_}
 use native.Mathlib.Omega.{arith}
 use borrow.Author.Tests.{le-ltb}
 use lib.Dec.{ltb}
@@ -24,18 +24,18 @@ use Rattle.planning.specs.Plan.{isRepaired, stepsFrom, roundsFrom, planOf, mark
 use Rattle.planning.specs.Made.{stepsIn}
 use Rattle.planning.proofs.RoundLaws.{length-bytes}
 use Rattle.planning.proofs.CarryLaws.{steps-back}
-use Rattle.boxes.specs.Box.{boxChecks, bodyChecks, bodyOf}
+use Rattle.boxes.specs.Box.{blockLengthIn, nodeCountIn, boxChecks, bodyChecks, bodyOf}
 use Rattle.boxes.specs.Bodies.{bodiesOf, boxOf, withBodies}
 use Rattle.repair.specs.declared.Session.{Session}
 use Rattle.repair.specs.Session.{sessionOf, started, startChecks, nodeCountOf, noStart, nodesChecks}
 use Rattle.repair.specs.Boxed.{checkedBox, readChecks, readBox, nodesRead, writeChecks, written, outWritten}
 use Rattle.repair.specs.Step.{stepChecks, stepped, nodesStepped}
-use Rattle.repair.specs.Repairs.{planIn, runChecks}
+use Rattle.repair.specs.Repairs.{planIn}
 use Rattle.repair.proofs.StartLaws.{nodes-0}
 use Rattle.repair.proofs.RepairsLaws.{plan-made, run-made}
 use Rattle.listing.specs.Text.{digitCount, decimal, field, firstLine, stepLine, stepLines, lastLine, refusalLine}
 use Rattle.listing.specs.Listing.{answerOf, listingIn, listingOf}
-use Rattle.examples.specs.Examples.{Row, Encodes, Plans, BoxPlans, BoxSteps, BoxReads, BoxHolds, BoxLacks, BoxRewrites, Lists, Starts, BoxGives, BoxWrites, Holds, HasPlan, StepGives, Reads, Rewrites, Every, accepted, allBut, table, Examples}
+use Rattle.examples.specs.Examples.{Row, Encodes, Plans, Starts, BoxGives, BoxReads, BoxHolds, BoxLacks, BoxSteps, BoxWrites, Lists, accepted, allBut, HasPlan, Holds, Every, table, Examples}
 
 -- ---- a plan
 
@@ -49,7 +49,6 @@ HasFigures s steps rounds left =
 
 -- plan and run give what is computed
 has-plan : (s : Session) (steps : List ℕ) (rounds : ℕ) (left : List ℕ) → noStart s ≡ false → HasFigures s steps rounds left → HasPlan s steps rounds left
-unfolding runChecks
 has-plan s steps rounds left start (bytes-are, last-is, marks-are, number-is) =
     record {
       plan-gives = λ out h. sym (plan-made s out start (omega (arith, size-is)) .answer-is) ∙ rw (plan-is, count-is, last-is, marks-are, number-is);
@@ -89,6 +88,10 @@ each n P h nodes e = subst P all (h byte)
     all : listFrom byte 0 n ≡ nodes
     all = ext-getD 0 (listFrom byte 0 n) nodes (length-listFrom byte 0 n ∙ sym e) (λ i l. getD-listFrom byte n i 0 (omega (arith, length-listFrom byte 0 n)))
 
+-- this is so of a box's session and n × L bytes, whatever they are
+abbrev Each : List ℕ → (Session → List ℕ → Type 0) → Type 0
+Each box So = (byte : ℕ → ℕ) → So (checkedBox box .session) (listFrom byte 0 (nodeCountIn box * blockLengthIn box))
+
 -- ---- the rows
 
 -- what is computed of a row
@@ -97,21 +100,19 @@ Computed (Encodes family k L object nodes) =
     (firstMet (encodeChecks family k L (length object) (length nodes)) ≡ 0) × (nodesBuffer (familyOf family) k L object ≡ nodes)
 Computed (Plans family k list steps rounds left) =
     (firstMet (startChecks family k 1 list) ≡ 0) × (noStart (sessionOf family k 1 list) ≡ false) × HasFigures (sessionOf family k 1 list) steps rounds left
-Computed (BoxPlans box s steps rounds left) = (checkedBox box ≡ accepted s) × (noStart s ≡ false) × HasFigures s steps rounds left
-Computed (BoxSteps box j a b number) =
-    (checkedBox box .refusal ≡ 0)
-    × ((byte : ℕ → ℕ) → StepGives (checkedBox box .session) j a b number (listFrom byte 0 (nodeCountOf (checkedBox box .session) * checkedBox box .session .len)))
-Computed (BoxReads box s after) = (byte : ℕ → ℕ) → Reads box s after (listFrom byte 0 (nodeCountOf s * s .len))
-Computed (BoxHolds box j start body) = Holds (BoxHolds box j start body)
-Computed (BoxLacks box j number) = Holds (BoxLacks box j number)
-Computed (BoxRewrites box s list) =
-    (byte : ℕ → ℕ) (out : List ℕ) → ltb (length out) (length box) ≡ false → Rewrites box s list (listFrom byte 0 (nodeCountOf s * s .len)) out
-Computed (Lists box text) = Holds (Lists box text)
 Computed (Starts family k L list number) = Holds (Starts family k L list number)
 Computed (BoxGives bytes number) = Holds (BoxGives bytes number)
+Computed (BoxReads box s after) =
+    (checkedBox box ≡ accepted s)
+    × Each box (λ given nodes. (readBox box nodes ≡ accepted s) × (nodesRead box nodes ≡ after (λ j. getD nodes (j - 1) 0)))
+Computed (BoxHolds box j start body) = Holds (BoxHolds box j start body)
+Computed (BoxLacks box j number) = Holds (BoxLacks box j number)
+Computed (BoxSteps box j a b number) = Each box (λ s nodes. (stepped s nodes j a b ≡ record { refusal = number; session = s }) × (nodesStepped s nodes j a b ≡ nodes))
 Computed (BoxWrites box list other) =
-    (byte : ℕ → ℕ) (out : List ℕ) → ltb (length out) (length other) ≡ false
-    → outWritten (checkedBox box .session) (nodesRead box (listFrom byte 0 (nodeCountOf (checkedBox box .session) * checkedBox box .session .len))) list out ≡ other ++ drop (length other) out
+    Each box (λ s nodes. (out : List ℕ) → ltb (length out) (length other) ≡ false
+    → (written s (nodesRead box nodes) list out ≡ record { refusal = 0; length = length other; session = s })
+    × (outWritten s (nodesRead box nodes) list out ≡ other ++ drop (length other) out))
+Computed (Lists box text) = Holds (Lists box text)
 
 -- and what follows
 holds : (row : Row) → Computed row → Holds row
@@ -120,20 +121,14 @@ holds (Encodes family k L object nodes) (a, is) = λ buffer e. (rw (e, a), rw (e
 holds (Plans family k list steps rounds left) (a, start, figures) = λ L h g.
     let same = same-checks family k L h g in
     (rw (same, a), has-plan (sessionOf family k L list) steps rounds left (rw same start) figures)
-holds (BoxPlans box s steps rounds left) (a, start, figures) = (a, has-plan s steps rounds left start figures)
-holds (BoxSteps box j a b number) (e, c) =
-    (e, each (nodeCountOf (checkedBox box .session) * checkedBox box .session .len) (StepGives (checkedBox box .session) j a b number) c)
-holds (BoxReads box s after) c = each (nodeCountOf s * s .len) (Reads box s after) c
-holds (BoxHolds box j start body) c = c
-holds (BoxLacks box j number) c = c
-holds (BoxRewrites box s list) c = λ nodes e out h.
-    each (nodeCountOf s * s .len) (λ nodes. Rewrites box s list nodes out) (λ byte. c byte out (le-ltb (length out) (length box) h)) nodes e
-holds (Lists box text) c = c
 holds (Starts family k L list number) c = c
 holds (BoxGives bytes number) c = c
-holds (BoxWrites box list other) c = λ nodes e out h.
-    each (nodeCountOf (checkedBox box .session) * checkedBox box .session .len) (λ nodes. outWritten (checkedBox box .session) (nodesRead box nodes) list out ≡ other ++ drop (length other) out)
-    (λ byte. c byte out (le-ltb (length out) (length other) h)) nodes e
+holds (BoxReads box s after) (a, c) = (a, each _ _ c)
+holds (BoxHolds box j start body) c = c
+holds (BoxLacks box j number) c = c
+holds (BoxSteps box j a b number) c = each _ _ c
+holds (BoxWrites box list other) c = each _ _ (λ byte out h. c byte out (le-ltb (length out) (length other) h))
+holds (Lists box text) c = c
 
 all-hold : (rows : List Row) → Every Computed rows → Every Holds rows
 all-hold [] c = tt
@@ -150,21 +145,22 @@ computed : Every Computed table
 unfolding started refusalLine encodeChecks parameterChecks firstMet nodesBuffer joined nodeBlock columnOf nodeCount xorBytes startChecks checkedBox boxChecks someOutside rises setLive noStart liveOutside someFrom planOf roundsFrom stepsFrom isRepaired smallerNode largerNode firstFrom areRelated smallerAt largerAt stepBytes lastRound nodesLeft countFrom thoseFrom someMissing stepsIn placeIn listFrom readBox nodesRead readChecks withBodies withBlock blockOf bodyChecks bodyOf writeChecks nodesChecks written outWritten boxOf bodiesOf stepChecks stepped nodesStepped listingOf answerOf listingIn firstLine stepLines stepLine lastLine field decimal digitCount
 computed =
     (refl, refl)
-    & (refl, refl, (refl, refl, refl, refl))
-    & (refl, refl, (refl, refl, refl, refl))
-    & (refl, refl, (refl, refl, refl, refl))
-    & (refl, refl, (refl, refl, refl, refl))
-    & (refl, refl, (refl, refl, refl, refl))
-    & (refl, refl, (refl, refl, refl, refl))
-    & (refl, refl, (refl, refl, refl, refl))
     & (refl, λ byte. (refl, refl))
-    & (refl, λ byte. (refl, refl))
-    & (refl, λ byte. (refl, refl))
+    & (refl, refl, (refl, refl, refl, refl))
+    & (refl, refl, (refl, refl, refl, refl))
+    & (refl, refl, (refl, refl, refl, refl))
+    & (refl, refl, (refl, refl, refl, refl))
+    & (refl, refl, (refl, refl, refl, refl))
     & (refl, refl, (refl, refl, refl, refl))
     & (refl, refl, (refl, refl, refl, refl))
     & (λ byte. (refl, refl))
+    & (λ byte. (refl, refl))
+    & (λ byte. (refl, refl))
+    & (refl, refl, (refl, refl, refl, refl))
+    & (refl, refl, (refl, refl, refl, refl))
     & (refl, refl, refl)
     & (refl, refl)
+    & (λ byte out l. (rw l, rw l))
     & (λ byte out l. (rw l, rw l))
     & refl
     & (refl, refl)
@@ -172,7 +168,6 @@ computed =
     & refl & refl & refl & refl & refl & refl & refl & refl
     & refl & refl & refl & refl & refl
     & refl & refl & refl
-    & (λ byte out l. rw l)
     & tt
 
 pub examples : Examples

@@ -11,7 +11,7 @@ use Rattle.checks.specs.Checks.{firstMet}
 use Rattle.checks.specs.Parameters.{mostL}
 use Rattle.encoding.specs.Encode.{encodeAnswer, encoded}
 use Rattle.planning.specs.Made.{nodesMade, stepsIn}
-use Rattle.boxes.specs.Box.{bodyChecks, bodyStart, bodyOf}
+use Rattle.boxes.specs.Box.{blockLengthIn, nodeCountIn, bodyChecks, bodyStart, bodyOf}
 use Rattle.repair.specs.declared.Session.{Session}
 use Rattle.repair.specs.declared.Started.{Started}
 use Rattle.repair.specs.Session.{sessionOf, started, nodeCountOf}
@@ -29,26 +29,22 @@ pub data Row : Type 0 where
   Encodes : ℕ → ℕ → ℕ → List ℕ → List ℕ → Row
   -- family, k and the live nodes; at every L, the plan's steps, four numbers each, its rounds, and the nodes left
   Plans : ℕ → ℕ → List ℕ → List ℕ → ℕ → List ℕ → Row
-  -- a box and its session; the plan of this session likewise
-  BoxPlans : List ℕ → Session → List ℕ → ℕ → List ℕ → Row
-  -- a box; a node and two others; the number that this step gives in the box's session
-  BoxSteps : List ℕ → ℕ → ℕ → ℕ → ℕ → Row
+  -- family, k, L and a node list; the number that the start gives
+  Starts : ℕ → ℕ → ℕ → List ℕ → ℕ → Row
+  -- bytes, and the number that checking them as a box gives
+  BoxGives : List ℕ → ℕ → Row
   -- a box and its session; the nodes buffer after reading, where `was j` is the byte j of it before, from 1: node j's, L being 1
   BoxReads : List ℕ → Session → ((ℕ → ℕ) → List ℕ) → Row
   -- a box; a node that it holds, the place in the box where its body begins, and the body
   BoxHolds : List ℕ → ℕ → ℕ → List ℕ → Row
   -- a box; a node, and the number that asking for its body gives
   BoxLacks : List ℕ → ℕ → ℕ → Row
-  -- a box and its session; a list of nodes by which what was read is written again as the same box
-  BoxRewrites : List ℕ → Session → List ℕ → Row
-  -- a box, and what the lister prints of it
-  Lists : List ℕ → String → Row
-  -- family, k, L and a node list; the number that the start gives
-  Starts : ℕ → ℕ → ℕ → List ℕ → ℕ → Row
-  -- bytes, and the number that checking them as a box gives
-  BoxGives : List ℕ → ℕ → Row
+  -- a box; a node and two others; the number that this step gives in the box's session
+  BoxSteps : List ℕ → ℕ → ℕ → ℕ → ℕ → Row
   -- a box; a list of its nodes, and the box that is written by it of what was read
   BoxWrites : List ℕ → List ℕ → List ℕ → Row
+  -- a box, and what the lister prints of it
+  Lists : List ℕ → String → Row
 
 -- what an accepted start or box gives: 0 and its session
 abbrev pub accepted : Session → Started
@@ -72,19 +68,9 @@ pub record HasPlan (s : Session) (steps : List ℕ) (rounds : ℕ) (left : List 
   pub run-leaves : (nodes : List ℕ) → length nodes ≡ nodeCountOf s * s .len
       → nodesRan s nodes ≡ nodesMade (s .len) nodes (stepsIn steps (length steps / 4))
 
--- a step that gives this number: session and nodes buffer stay
-abbrev pub StepGives : Session → ℕ → ℕ → ℕ → ℕ → List ℕ → Type 0
-StepGives s j a b number nodes = (stepped s nodes j a b ≡ record { refusal = number; session = s }) × (nodesStepped s nodes j a b ≡ nodes)
-
--- a box read into a nodes buffer: its session, and the buffer afterwards
-abbrev pub Reads : List ℕ → Session → ((ℕ → ℕ) → List ℕ) → List ℕ → Type 0
-Reads box s after nodes = (readBox box nodes ≡ accepted s) × (nodesRead box nodes ≡ after (λ j. getD nodes (j - 1) 0))
-
--- what was read, written again by a list: the length and the bytes of the box, and beyond them what was there
-abbrev pub Rewrites : List ℕ → Session → List ℕ → List ℕ → List ℕ → Type 0
-Rewrites box s list nodes out =
-    (written s (nodesRead box nodes) list out ≡ record { refusal = 0; length = length box; session = s })
-    × (outWritten s (nodesRead box nodes) list out ≡ box ++ drop (length box) out)
+-- this is so of a box's session and every nodes buffer of its length
+abbrev pub InBox : List ℕ → (Session → List ℕ → Type 0) → Type 0
+InBox box So = (nodes : List ℕ) → length nodes ≡ nodeCountIn box * blockLengthIn box → So (checkedBox box .session) nodes
 
 -- what an example says
 abbrev pub Holds : Row → Type 0
@@ -93,22 +79,20 @@ Holds (Encodes family k L object nodes) =
 Holds (Plans family k list steps rounds left) =
     (L : ℕ) → 1 ≤ L → L ≤ mostL
     → (started family k L list ≡ accepted (sessionOf family k L list)) × HasPlan (sessionOf family k L list) steps rounds left
-Holds (BoxPlans box s steps rounds left) = (checkedBox box ≡ accepted s) × HasPlan s steps rounds left
-Holds (BoxSteps box j a b number) =
-    (checkedBox box .refusal ≡ 0)
-    × ((nodes : List ℕ) → length nodes ≡ nodeCountOf (checkedBox box .session) * checkedBox box .session .len
-    → StepGives (checkedBox box .session) j a b number nodes)
-Holds (BoxReads box s after) = (nodes : List ℕ) → length nodes ≡ nodeCountOf s * s .len → Reads box s after nodes
-Holds (BoxHolds box j start body) = (firstMet (bodyChecks box j) ≡ 0) × (bodyStart box j ≡ start) × (bodyOf box j ≡ body)
-Holds (BoxLacks box j number) = (firstMet (bodyChecks box j) ≡ number) × (bodyOf box j ≡ [])
-Holds (BoxRewrites box s list) =
-    (nodes : List ℕ) → length nodes ≡ nodeCountOf s * s .len → (out : List ℕ) → length box ≤ length out → Rewrites box s list nodes out
-Holds (Lists box text) = listingOf box ≡ ascii text
 Holds (Starts family k L list number) = started family k L list .refusal ≡ number
 Holds (BoxGives bytes number) = checkedBox bytes .refusal ≡ number
+Holds (BoxReads box s after) =
+    (checkedBox box ≡ accepted s) × InBox box (λ given nodes. (readBox box nodes ≡ accepted s) × (nodesRead box nodes ≡ after (λ j. getD nodes (j - 1) 0)))
+Holds (BoxHolds box j start body) = (firstMet (bodyChecks box j) ≡ 0) × (bodyStart box j ≡ start) × (bodyOf box j ≡ body)
+Holds (BoxLacks box j number) = (firstMet (bodyChecks box j) ≡ number) × (bodyOf box j ≡ [])
+-- session and nodes buffer stay
+Holds (BoxSteps box j a b number) = InBox box (λ s nodes. (stepped s nodes j a b ≡ record { refusal = number; session = s }) × (nodesStepped s nodes j a b ≡ nodes))
+-- the length is returned, and beyond it the destination keeps what was there
 Holds (BoxWrites box list other) =
-    (nodes : List ℕ) → length nodes ≡ nodeCountOf (checkedBox box .session) * checkedBox box .session .len
-    → (out : List ℕ) → length other ≤ length out → outWritten (checkedBox box .session) (nodesRead box nodes) list out ≡ other ++ drop (length other) out
+    InBox box (λ s nodes. (out : List ℕ) → length other ≤ length out
+    → (written s (nodesRead box nodes) list out ≡ record { refusal = 0; length = length other; session = s })
+    × (outWritten s (nodesRead box nodes) list out ≡ other ++ drop (length other) out))
+Holds (Lists box text) = listingOf box ≡ ascii text
 
 -- this is so of every row of a table
 abbrev pub Every : (Row → Type 0) → List Row → Type 0
@@ -121,17 +105,15 @@ Every So (row ∷ rows) = So row × Every So rows
 abbrev pub sampleBox : List ℕ
 sampleBox = 1 ∷ 3 ∷ 1 ∷ 0 ∷ 3 ∷ 0 ∷ 0 ∷ 0 ∷ 4 ∷ 5 ∷ 7 ∷ 4 ∷ 5 ∷ 7 ∷ []
 
--- its session: simplex, k 3, L 1, nodes 4, 5 and 7 live
-abbrev pub sampleSession : Session
-sampleSession = sessionOf 1 3 1 (4 ∷ 5 ∷ 7 ∷ [])
-
 -- the table
 abbrev pub table : List Row
 table =
     -- a. Simplex 3, L 1, object 1, 2, 4: node j holds j
     Encodes 1 3 1 (1 ∷ 2 ∷ 4 ∷ []) (1 ∷ 2 ∷ 3 ∷ 4 ∷ 5 ∷ 6 ∷ 7 ∷ [])
-    -- b. The box above: the plan above
-    ∷ BoxPlans sampleBox sampleSession (1 ∷ 1 ∷ 4 ∷ 5 ∷ 1 ∷ 2 ∷ 5 ∷ 7 ∷ 1 ∷ 3 ∷ 4 ∷ 7 ∷ 2 ∷ 6 ∷ 1 ∷ 7 ∷ []) 2 []
+    -- b. The box above: its session, and the bodies of 4, 5 and 7 read into a nodes buffer, where places of missing nodes keep their bytes; the
+    -- plan above
+    ∷ BoxReads sampleBox (sessionOf 1 3 1 (4 ∷ 5 ∷ 7 ∷ [])) (λ was. was 1 ∷ was 2 ∷ was 3 ∷ 4 ∷ 5 ∷ was 6 ∷ 7 ∷ [])
+    ∷ Plans 1 3 (4 ∷ 5 ∷ 7 ∷ []) (1 ∷ 1 ∷ 4 ∷ 5 ∷ 1 ∷ 2 ∷ 5 ∷ 7 ∷ 1 ∷ 3 ∷ 4 ∷ 7 ∷ 2 ∷ 6 ∷ 1 ∷ 7 ∷ []) 2 []
     -- c. Simplex 2, live 1: steps 0, rounds 0, left 2
     ∷ Plans 1 2 (1 ∷ []) [] 0 (2 ∷ 3 ∷ [])
     -- d. Simplex 3, live 1, 2, 4: steps 4, rounds 2, left 0
@@ -153,13 +135,12 @@ table =
     -- j. Simplex 3, none live: steps 0, rounds 0, left 7; all live: left 0, rounds 0
     ∷ Plans 1 3 [] [] 0 (1 ∷ 2 ∷ 3 ∷ 4 ∷ 5 ∷ 6 ∷ 7 ∷ [])
     ∷ Plans 1 3 (1 ∷ 2 ∷ 3 ∷ 4 ∷ 5 ∷ 6 ∷ 7 ∷ []) [] 0 []
-    -- The box above, read into a nodes buffer: the bodies of 4, 5 and 7; places of missing nodes keep their bytes
-    ∷ BoxReads sampleBox sampleSession (λ was. was 1 ∷ was 2 ∷ was 3 ∷ 4 ∷ 5 ∷ was 6 ∷ 7 ∷ [])
-    -- From this box, the body of node 5 is the part at byte 12; that of node 6, which is missing, gives 12 and an empty part
+    -- From the box above, the body of node 5 is the part at byte 12; that of node 6, which is missing, gives 12 and an empty part
     ∷ BoxHolds sampleBox 5 12 (5 ∷ [])
     ∷ BoxLacks sampleBox 6 12
-    -- What was read from it, written again by the list 4, 5, 7, is the box
-    ∷ BoxRewrites sampleBox sampleSession (4 ∷ 5 ∷ 7 ∷ [])
+    -- What was read from it, written again by the list 4, 5, 7, is the box, and by the list 5 the box of node 5 alone
+    ∷ BoxWrites sampleBox (4 ∷ 5 ∷ 7 ∷ []) sampleBox
+    ∷ BoxWrites sampleBox (5 ∷ []) (1 ∷ 3 ∷ 1 ∷ 0 ∷ 1 ∷ 0 ∷ 0 ∷ 0 ∷ 5 ∷ 5 ∷ [])
     -- It makes the lister print, whole, these six lines
     ∷ Lists sampleBox "family 1 k 3 length 1 live 3\n1 1 4 5\n1 2 5 7\n1 3 4 7\n2 6 1 7\nsteps 4 rounds 2 left 0\n"
     -- Weight-two 4 and the tetrahedron with an object whose data block i is 2^(i − 1): each node holds its column
@@ -185,8 +166,6 @@ table =
     ∷ Lists (3 ∷ 4 ∷ 1 ∷ 0 ∷ 2 ∷ 0 ∷ 0 ∷ 0 ∷ 4 ∷ 8 ∷ 9 ∷ 6 ∷ []) "family 3 k 4 length 1 live 2\nsteps 0 rounds 0 left 12\n"
     ∷ Lists [] "refused 7\n"
     ∷ Lists (2 ∷ 4 ∷ 3 ∷ 1 ∷ 0 ∷ 0 ∷ 0 ∷ 0 ∷ []) "family 2 k 4 length 259 live 0\nsteps 0 rounds 0 left 10\n"
-    -- The box of node 5 alone, written of what was read from document 01's box
-    ∷ BoxWrites sampleBox (5 ∷ []) (1 ∷ 3 ∷ 1 ∷ 0 ∷ 1 ∷ 0 ∷ 0 ∷ 0 ∷ 5 ∷ 5 ∷ [])
     ∷ []
 
 -- the common statement
