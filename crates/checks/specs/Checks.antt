@@ -1,6 +1,6 @@
 -- The order of checks (document 01, "Order of checks") as data: a list of conditions, each with the number that it gives.
 use Prim.Native.Nat.{ℕ}
-use mathlib.Core.Bool.{Bool, true, false, cond}
+use mathlib.Core.Bool.{Bool, cond}
 use mathlib.Core.List.{List, [], _∷_}
 use lib.Dec.{eqb}
 
@@ -12,8 +12,7 @@ pub data Check : Type 0 where
 -- the number of the first check that is met; 0 where none is, and the call is accepted
 unfoldable pub firstMet : List Check → ℕ
 firstMet [] = 0
-firstMet ((true gives number) ∷ checks) = number
-firstMet ((false gives number) ∷ checks) = firstMet checks
+firstMet ((met gives number) ∷ checks) = cond met number (firstMet checks)
 
 -- what a call gives: served where no check is met, else refused with the number of the first that is
 abbrev pub answer : {A : Type 0} → List Check → A → (ℕ → A) → A

@@ -8,21 +8,24 @@ use Prim.Native.Nat.{ℕ}
 use native.Mathlib.Omega.{arith}
 use borrow.Author.Tests.{ne-eqb}
 use lib.Dec.{eqb}
+use lib.ListN.{length}
 use Rattle.checks.proofs.AnswerLaws.{answer-either}
 use Rattle.repair.specs.declared.Session.{Session}
 use Rattle.repair.specs.declared.Stepped.{Stepped}
 use Rattle.repair.specs.declared.Repairs.{Repairs}
 use Rattle.repair.specs.declared.Written.{Written}
 use Rattle.repair.specs.declared.ReadOut.{ReadOut}
-use Rattle.repair.specs.Step.{stepChecks, refusedStep, stepped}
-use Rattle.repair.specs.Repairs.{refusedRepairs, planChecks, planned, runChecks, ran}
-use Rattle.repair.specs.Boxed.{writeChecks, refusedWrite, written}
-use Rattle.repair.specs.ReadOut.{readOutChecks, refusedOut, readOut}
+use Rattle.repair.specs.Step.{stepChecks, stepped}
+use Rattle.repair.specs.Repairs.{refusedRepairs, planChecks, planned, ran}
+use Rattle.repair.specs.Boxed.{writeChecks, written}
+use Rattle.repair.specs.ReadOut.{readOutChecks, readOut}
+use Rattle.repair.specs.Session.{nodesChecks}
 use Rattle.mogtriz.specs.declared.sessions.MarkedSession.{MarkedSession}
 use Rattle.mogtriz.specs.declared.repairs.StepAnswer.{StepAnswer}
 use Rattle.mogtriz.specs.declared.repairs.RepairsAnswer.{RepairsAnswer}
 use Rattle.mogtriz.specs.Sessions.{someAbove1, sessionForC}
 use Rattle.mogtriz.specs.Repairs.{handedBack, steppedC, ranC}
+use Rattle.repair.proofs.Refused.{refusedStep, refusedWrite, refusedOut}
 use Rattle.mogtriz.proofs.MarkLaws.{marks-low}
 
 -- what holds of both answers holds of the one that a test chooses
@@ -64,7 +67,7 @@ module _ (s : Session) where
 
   pub run-done : (nodes : List ℕ) → (ran s nodes .refusal ≡ 0) ⊎ (ran s nodes .session ≡ s)
   unfolding ran
-  run-done nodes = answer-either (runChecks s nodes) _ (refusedRepairs s) (λ (r : Repairs). (r .refusal ≡ 0) ⊎ (r .session ≡ s)) (inl refl) (λ n. inr refl)
+  run-done nodes = answer-either (nodesChecks s (length nodes)) _ (refusedRepairs s) (λ (r : Repairs). (r .refusal ≡ 0) ⊎ (r .session ≡ s)) (inl refl) (λ n. inr refl)
 
   -- so for C it does not matter which of the two is handed on
   pub handed-on : (next : Session) (refusal : ℕ) → (refusal ≡ 0) ⊎ (next ≡ s) → handedBack (sessionForC s) refusal next ≡ sessionForC next

@@ -29,7 +29,7 @@ use Rattle.repair.specs.Claims.{boxWritten, WriteReadClaims}
 use Rattle.repair.specs.RepairClaims.{LiveAreOwn, RunAgain}
 use Rattle.repair.specs.WholeWay.{SameCode, BodiesAreOwn}
 use Rattle.repair.proofs.Proved.{start-marks-claim, box-start-claim, write-read-claim, read-write-claim, read-body-claim, written-body-claim}
-use Rattle.repair.proofs.RepairsProved.{live-stays, live-kept, run-again, own-claim}
+use Rattle.repair.proofs.RepairsProved.{live-stays, run-claim, own-claim}
 use Rattle.repair.proofs.WholeWayProved.{write-live-claim, own-box-claim, missing-open-claim}
 use Rattle.listing.proofs.ListingLaws.{Accepted}
 use Rattle.refilling.specs.Refilled.{liveBox, afterRun, boxAfterRun, nodesGiven, refilledOf}
@@ -161,7 +161,7 @@ module _ (input : List ℕ) (passes : checkedBox input .refusal ≡ 0) (short : 
     keeps =
         block-written
         ∙ ap (λ (L : ℕ). blockOf L after node) (same input passes zeros zeros-fit .len)
-        ∙ live-kept given (held-fits input passes zeros zeros-fit .marks) held (runs input passes zeros zeros-fit) node
+        ∙ run-claim given (held-fits input passes zeros zeros-fit .marks) held (runs input passes zeros zeros-fit) .live-kept node
         (subst (λ (s : Session). IsNode (familyOf (s .family)) (s .k) node) (sym given-is) is-node) live-before
         ∙ ap (λ (L : ℕ). blockOf L held node) (ap (λ (s : Session). s .len) given-is)
         ∙ read-body-claim input zeros (reads input passes zeros zeros-fit) i l
@@ -211,7 +211,7 @@ module _ (input : List ℕ) (passes : checkedBox input .refusal ≡ 0) (short : 
   quiet =
       let f = held-fits input passes (zeros input passes short) (zeros-fit input passes short) in
       let g = held-fits first passes-again (zeros first passes-again short-again) (zeros-fit first passes-again short-again) in
-      run-again start (f .marks) read-first (runs input passes (zeros input passes short) (zeros-fit input passes short)) read-again
+      run-claim start (f .marks) read-first (runs input passes (zeros input passes short) (zeros-fit input passes short)) .again read-again
       (g .size ∙ ap room-of (session-is first passes-again) ∙ same-size ∙ ap room-of (sym (given-is input passes short)))
 
   low-byte : getD first 2 0 < 256

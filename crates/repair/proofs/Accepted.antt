@@ -12,11 +12,13 @@ use Rattle.repair.specs.declared.Written.{Written}
 use Rattle.repair.specs.declared.Stepped.{Stepped}
 use Rattle.repair.specs.declared.Repairs.{Repairs}
 use Rattle.repair.specs.declared.ReadOut.{ReadOut}
-use Rattle.repair.specs.Session.{refusedStart, startChecks, started}
-use Rattle.repair.specs.Boxed.{checkedBox, readChecks, readBox, writeChecks, refusedWrite, written}
-use Rattle.repair.specs.ReadOut.{readOutChecks, refusedOut, readOut}
-use Rattle.repair.specs.Step.{stepChecks, refusedStep, stepped}
-use Rattle.repair.specs.Repairs.{refusedRepairs, planChecks, planned, runChecks, ran}
+use Rattle.repair.specs.Session.{refusedStart, startChecks, started, nodesChecks}
+use Rattle.repair.specs.Boxed.{checkedBox, readChecks, readBox, writeChecks, written}
+use Rattle.repair.specs.ReadOut.{readOutChecks, readOut}
+use Rattle.repair.specs.Step.{stepChecks, stepped}
+use Rattle.repair.specs.Repairs.{refusedRepairs, planChecks, planned, ran}
+use Rattle.repair.proofs.Refused.{refusedStep, refusedWrite, refusedOut}
+use lib.ListN.{length}
 
 pub start-accepted : (family k L : ℕ) (list : List ℕ) → started family k L list .refusal ≡ 0 → firstMet (startChecks family k L list) ≡ 0
 unfolding started
@@ -44,9 +46,9 @@ pub plan-accepted : (s : Session) (out : List ℕ) → planned s out .refusal �
 unfolding planned
 plan-accepted s out h = none-met (planChecks s out) _ (refusedRepairs s) (λ (r : Repairs). r .refusal) (λ n. refl) h
 
-pub run-accepted : (s : Session) (nodes : List ℕ) → ran s nodes .refusal ≡ 0 → firstMet (runChecks s nodes) ≡ 0
+pub run-accepted : (s : Session) (nodes : List ℕ) → ran s nodes .refusal ≡ 0 → firstMet (nodesChecks s (length nodes)) ≡ 0
 unfolding ran
-run-accepted s nodes h = none-met (runChecks s nodes) _ (refusedRepairs s) (λ (r : Repairs). r .refusal) (λ n. refl) h
+run-accepted s nodes h = none-met (nodesChecks s (length nodes)) _ (refusedRepairs s) (λ (r : Repairs). r .refusal) (λ n. refl) h
 
 pub read-out-accepted : (s : Session) (nodes object : List ℕ) → readOut s nodes object .refusal ≡ 0 → firstMet (readOutChecks s nodes object) ≡ 0
 unfolding readOut

@@ -12,16 +12,18 @@ use Rattle.repair.specs.declared.Written.{Written}
 use Rattle.repair.specs.declared.ReadOut.{ReadOut}
 use Rattle.repair.specs.declared.Repairs.{Repairs}
 use Rattle.repair.specs.Session.{nodesChecks}
-use Rattle.repair.specs.Boxed.{writeChecks, refusedWrite, written}
-use Rattle.repair.specs.ReadOut.{readOutChecks, refusedOut, readOut}
+use Rattle.repair.specs.Boxed.{writeChecks, written}
+use Rattle.repair.specs.ReadOut.{readOutChecks, readOut}
 use Rattle.repair.specs.Step.{stepChecks, nodesStepped}
-use Rattle.repair.specs.Repairs.{refusedRepairs, planChecks, planned, runChecks, ran}
+use Rattle.repair.specs.Repairs.{refusedRepairs, planChecks, planned, ran}
 use Rattle.repair.specs.RepairClaims.{StepKeepsClaim, AcceptsClaim}
+use Rattle.repair.proofs.Refused.{refusedWrite, refusedOut}
 use Rattle.repair.proofs.Accepted.{read-out-accepted, write-accepted, step-passed, plan-accepted, run-accepted}
 use Rattle.repair.proofs.StepLaws.{accepted-step, step-blocks}
+use lib.ListN.{length}
 
 pub accepts-claim : AcceptsClaim
-unfolding planned ran written readOut planChecks runChecks writeChecks readOutChecks nodesChecks
+unfolding planned ran written readOut planChecks writeChecks readOutChecks nodesChecks
 accepts-claim s =
     record {
       plan = λ out. (
@@ -29,8 +31,8 @@ accepts-claim s =
         (λ p. ap (λ (r : Repairs). r .refusal) (answer-served (planChecks s out) _ (refusedRepairs s) (none-zero (planChecks s out) (p .0, (le-ltb _ _ (p .1), tt))))),
       );
       run = λ nodes. (
-        (λ h. let n = accepted (runChecks s nodes) refl (run-accepted s nodes h) in (n .0, eqb-true _ _ (not-false _ (n .1 .0)))),
-        (λ p. ap (λ (r : Repairs). r .refusal) (answer-served (runChecks s nodes) _ (refusedRepairs s) (none-zero (runChecks s nodes) (p .0, (ap not (eq-eqb _ _ (p .1)), tt))))),
+        (λ h. let n = accepted (nodesChecks s (length nodes)) refl (run-accepted s nodes h) in (n .0, eqb-true _ _ (not-false _ (n .1 .0)))),
+        (λ p. ap (λ (r : Repairs). r .refusal) (answer-served (nodesChecks s (length nodes)) _ (refusedRepairs s) (none-zero (nodesChecks s (length nodes)) (p .0, (ap not (eq-eqb _ _ (p .1)), tt))))),
       );
       write = λ nodes list out. (
         (λ h.

@@ -21,7 +21,8 @@ use Rattle.repair.specs.declared.Session.{Session}
 use Rattle.repair.specs.declared.Started.{Started}
 use Rattle.repair.specs.declared.Written.{Written}
 use Rattle.repair.specs.Session.{refusedStart, nodeCountOf, nodesChecks}
-use Rattle.repair.specs.Boxed.{sessionIn, readChecks, readBox, nodesRead, listed, writtenLength, writeChecks, refusedWrite, written, outWritten}
+use Rattle.repair.specs.Boxed.{sessionIn, readChecks, readBox, nodesRead, listed, writtenLength, writeChecks, written, outWritten}
+use Rattle.repair.proofs.Refused.{refusedWrite}
 use Rattle.repair.proofs.StartLaws.{nodes-none}
 
 -- ---- a box

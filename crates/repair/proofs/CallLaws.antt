@@ -15,14 +15,15 @@ use Rattle.checks.proofs.AnswerLaws.{answer-served, call-either}
 use Rattle.lists.specs.Lists.{noneLive, setLive}
 use Rattle.lists.proofs.Laws.{outside-none}
 use Rattle.lists.proofs.MarkLaws.{live-append}
-use Rattle.planning.specs.Plan.{Step, repairedNodes}
+use Rattle.planning.specs.Plan.{Step, repairedNodes, marksAfter, nodesLeft}
 use Rattle.repair.specs.declared.Session.{Session}
 use Rattle.repair.specs.declared.Stepped.{Stepped}
 use Rattle.repair.specs.declared.Repairs.{Repairs}
-use Rattle.repair.specs.Session.{sessionWith, sessionOf, startChecks, started}
-use Rattle.repair.specs.Step.{refusedStep, stepChecks, withLive, stepped}
-use Rattle.repair.specs.Repairs.{leftIn, planIn, repairsOf, refusedRepairs, planChecks, planned, runChecks, ran}
+use Rattle.repair.specs.Session.{sessionWith, sessionOf, startChecks, started, nodesChecks, nodeCountOf}
+use Rattle.repair.specs.Step.{stepChecks, withLive, stepped}
+use Rattle.repair.specs.Repairs.{planIn, repairsOf, refusedRepairs, planChecks, planned, ran}
 use Rattle.repair.specs.Calls.{Move, step, run, Call, sessionAfter, sessionAfterAll, addedBy, liveAfter}
+use Rattle.repair.proofs.Refused.{refusedStep}
 use Rattle.repair.proofs.Accepted.{plan-accepted, run-accepted}
 use Rattle.repair.proofs.StartLaws.{accepted-start}
 use Rattle.repair.proofs.StepLaws.{accepted-step}
@@ -47,11 +48,11 @@ from-start family k L list e =
 
 -- ---- an accepted plan or run
 
-pub ran-left : (s : Session) (nodes : List ℕ) → ran s nodes .refusal ≡ 0 → ran s nodes .left ≡ leftIn s
+pub ran-left : (s : Session) (nodes : List ℕ) → ran s nodes .refusal ≡ 0 → ran s nodes .left ≡ nodesLeft (marksAfter (s .live) (planIn s)) (nodeCountOf s)
 unfolding ran
-ran-left s nodes h = ap (λ (r : Repairs). r .left) (answer-served (runChecks s nodes) (repairsOf s _) (refusedRepairs s) (run-accepted s nodes h))
+ran-left s nodes h = ap (λ (r : Repairs). r .left) (answer-served (nodesChecks s (length nodes)) (repairsOf s _) (refusedRepairs s) (run-accepted s nodes h))
 
-pub planned-left : (s : Session) (out : List ℕ) → planned s out .refusal ≡ 0 → planned s out .left ≡ leftIn s
+pub planned-left : (s : Session) (out : List ℕ) → planned s out .refusal ≡ 0 → planned s out .left ≡ nodesLeft (marksAfter (s .live) (planIn s)) (nodeCountOf s)
 unfolding planned
 planned-left s out h = ap (λ (r : Repairs). r .left) (answer-served (planChecks s out) (repairsOf s s) (refusedRepairs s) (plan-accepted s out h))
 
@@ -74,7 +75,7 @@ module _ (family k L : ℕ) where
       call-either (stepChecks (from now) nodes j a b) _ (refusedStep (from now)) (j ∷ []) []
       (λ (r : Stepped) (added : List ℕ). r .session ≡ from (now ++ added)) (added-session now (j ∷ [])) (λ n. none-added now)
   call-session now nodes run =
-      call-either (runChecks (from now) nodes) _ (refusedRepairs (from now)) (repairedNodes (planIn (from now))) []
+      call-either (nodesChecks (from now) (length nodes)) _ (refusedRepairs (from now)) (repairedNodes (planIn (from now))) []
       (λ (r : Repairs) (added : List ℕ). r .session ≡ from (now ++ added)) (added-session now (repairedNodes (planIn (from now)))) (λ n. none-added now)
 
   pub calls-session : (calls : List Call) (now : List ℕ) → sessionAfterAll (from now) calls ≡ from (liveAfter family k L now calls)
@@ -109,7 +110,7 @@ module _ (family k L : ℕ) where
         let r : ℕ = firstMet (stepChecks (from now) nodes j a b) in
         either-adds (j ∷ []) (eqb r 0) (λ e. step-adds now g nodes j a b (eqb-true r 0 e))
     call-adds now g nodes run =
-        either-adds (repairedNodes (planIn (from now))) (eqb (firstMet (runChecks (from now) nodes)) 0) (λ e. plan-reach (familyOf family) k list range now g)
+        either-adds (repairedNodes (planIn (from now))) (eqb (firstMet (nodesChecks (from now) (length nodes))) 0) (λ e. plan-reach (familyOf family) k list range now g)
 
     pub calls-live : (calls : List Call) (now : List ℕ) → Live now → Live (liveAfter family k L now calls)
     unfolding liveAfter

@@ -25,10 +25,11 @@ use Rattle.repair.specs.declared.Stepped.{Stepped}
 use Rattle.repair.specs.declared.Repairs.{Repairs}
 use Rattle.repair.specs.Session.{sessionOf, startChecks, started, nodeCountOf, nodesChecks}
 use Rattle.repair.specs.Boxed.{sessionIn, checkedBox, readChecks, readBox, nodesRead, writeChecks, written}
-use Rattle.repair.specs.Step.{refusedStep, stepChecks, stepped, nodesStepped}
-use Rattle.repair.specs.Repairs.{planIn, refusedRepairs, runChecks, ran, nodesRan}
+use Rattle.repair.specs.Step.{stepChecks, stepped, nodesStepped}
+use Rattle.repair.specs.Repairs.{planIn, refusedRepairs, ran, nodesRan}
 use Rattle.repair.specs.Calls.{Move, step, run, sessionAfter, nodesAfter}
 use Rattle.repair.specs.WholeWay.{Fits, SameCode}
+use Rattle.repair.proofs.Refused.{refusedStep}
 use Rattle.repair.proofs.StartLaws.{no-start-marks, nodes-0, accepted-start}
 use Rattle.repair.proofs.StepLaws.{accepted-step}
 use Rattle.repair.proofs.RoundTripLaws.{box-starts, accepted-read, read-size}
@@ -75,8 +76,7 @@ module _ (bytes nodes : List ℕ) (e : firstMet (readChecks bytes nodes) ≡ 0) 
 -- ---- steps and runs
 
 module _ (s : Session) (nodes : List ℕ) where
-  pub fits-runs : Fits s nodes → firstMet (runChecks s nodes) ≡ 0
-  unfolding runChecks
+  pub fits-runs : Fits s nodes → firstMet (nodesChecks s (length nodes)) ≡ 0
   fits-runs f = nodes-0 s (length nodes) (f .starts) (f .size)
 
   fits-ran : Fits s nodes → Fits (ran s nodes .session) (nodesRan s nodes)
@@ -113,7 +113,7 @@ module _ (s : Session) (nodes : List ℕ) where
   same-code (step j a b) =
       answer-either (stepChecks s nodes j a b) _ (refusedStep s) (λ (r : Stepped). SameCode s (r .session)) (record { family = refl; k = refl; len = refl }) (λ n. itself)
   same-code run =
-      answer-either (runChecks s nodes) _ (refusedRepairs s) (λ (r : Repairs). SameCode s (r .session)) (record { family = refl; k = refl; len = refl }) (λ n. itself)
+      answer-either (nodesChecks s (length nodes)) _ (refusedRepairs s) (λ (r : Repairs). SameCode s (r .session)) (record { family = refl; k = refl; len = refl }) (λ n. itself)
 
 -- ---- every live node written
 

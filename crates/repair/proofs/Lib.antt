@@ -1,3 +1,4 @@
+pub mod Refused
 pub mod Accepted
 pub mod StartLaws
 pub mod ReadOutLaws

@@ -41,9 +41,9 @@ use Rattle.repair.specs.declared.Repairs.{Repairs}
 use Rattle.repair.specs.Session.{nodeCountOf, noStart, nodesChecks}
 use Rattle.repair.specs.ReadOut.{missingIn, readOutChecks, objectOut}
 use Rattle.repair.specs.Step.{stepChecks, withLive, stepped, nodesStepped}
-use Rattle.repair.specs.Repairs.{planIn, runChecks, ran, nodesRan}
+use Rattle.repair.specs.Repairs.{planIn, ran, nodesRan}
 use Rattle.repair.specs.Calls.{Move, step, run, sessionAfter, nodesAfter, State, stateAfter}
-use Rattle.repair.specs.RepairClaims.{asMove, LiveAreOwn}
+use Rattle.repair.specs.RepairClaims.{LiveAreOwn}
 use Rattle.repair.proofs.StartLaws.{Known, known, Sized, sized}
 use Rattle.repair.proofs.StepLaws.{AcceptedStep, accepted-step, step-accepted}
 use Rattle.repair.proofs.ReadOutLaws.{read}
@@ -111,6 +111,10 @@ module _ (s : Session) (nodes : List ℕ) (made : Step) (w : AcceptedStep s node
 
 -- ---- steps that can be made, one after the other
 
+-- a step of a plan as a call
+abbrev asMove : Step → Move
+asMove made = step (made .node) (made .smaller) (made .larger)
+
 steps-held : (s : Session) (nodes : List ℕ) (steps : List Step) → Sized s (length nodes) → CanMakeAll (familyOf (s .family)) (s .k) (s .live) steps
     → stateAfter s nodes (map asMove steps) ≡ record { session = withLive s (repairedNodes steps); nodes = nodesMade (s .len) nodes steps }
 unfolding stateAfter nodesMade setLive
@@ -162,10 +166,9 @@ live-apart f k marks (x ∷ steps) a j l = (
   live-apart f k (set marks (x .node) true) steps (a .1) j (set-keeps marks (x .node) j l),
 )
 
-module _ (s : Session) (nodes : List ℕ) (e : firstMet (runChecks s nodes) ≡ 0) where
+module _ (s : Session) (nodes : List ℕ) (e : firstMet (nodesChecks s (length nodes)) ≡ 0) where
   -- what an accepted run says
   run-sized : Sized s (length nodes)
-  unfolding runChecks
   run-sized = sized s (length nodes) e
 
   pub run-known : Known s
@@ -214,7 +217,7 @@ no-steps f k marks (x ∷ steps) a done =
     let m = a .0 in
     absurd (done (x .node) (x .smaller) (x .larger) (m .node) (m .smaller) (m .larger) (m .missing) (m .smaller-live) (m .larger-live) (m .related))
 
-module _ (s : Session) (nodes : List ℕ) (e : firstMet (runChecks s nodes) ≡ 0) (size : length (s .live) ≡ 256) (done : NoPairLeft (familyOf (s .family)) (s .k) (isLive (s .live))) where
+module _ (s : Session) (nodes : List ℕ) (e : firstMet (nodesChecks s (length nodes)) ≡ 0) (size : length (s .live) ≡ 256) (done : NoPairLeft (familyOf (s .family)) (s .k) (isLive (s .live))) where
   no-plan : planIn s ≡ []
   no-plan = no-steps (familyOf (s .family)) (s .k) (s .live) (planIn s) (plan-makes s nodes e size) done
 
@@ -242,9 +245,9 @@ module _ (s : Session) (starts : noStart s ≡ false) (nodes : List ℕ) where
 
   pub stays-ran : length (s .live) ≡ 256 → noStart (ran s nodes .session) ≡ false
   unfolding ran
-  stays-ran size = go (eqb (firstMet (runChecks s nodes)) 0) refl
+  stays-ran size = go (eqb (firstMet (nodesChecks s (length nodes))) 0) refl
     where
-      go : (met : Bool) → eqb (firstMet (runChecks s nodes)) 0 ≡ met → noStart (ran s nodes .session) ≡ false
+      go : (met : Bool) → eqb (firstMet (nodesChecks s (length nodes))) 0 ≡ met → noStart (ran s nodes .session) ≡ false
       go true e = ran-sized s nodes (eqb-true _ 0 e) size .starts
       go false e = rw e starts
 
@@ -261,7 +264,7 @@ module _ (s : Session) (nodes : List ℕ) where
 
   pub ran-keeps : (i : ℕ) → isLive (s .live) i ≡ true → isLive (ran s nodes .session .live) i ≡ true
   unfolding ran
-  ran-keeps i l = either-keeps (λ (r : Repairs). r .session) _ _ (repairedNodes (planIn s)) refl refl (eqb (firstMet (runChecks s nodes)) 0) i l
+  ran-keeps i l = either-keeps (λ (r : Repairs). r .session) _ _ (repairedNodes (planIn s)) refl refl (eqb (firstMet (nodesChecks s (length nodes))) 0) i l
 
 -- ---- the object's own blocks
 
@@ -316,9 +319,9 @@ module _ (object : List ℕ) where
 
   own-run : (s : Session) (nodes : List ℕ) → Own s nodes → Own (ran s nodes .session) (nodesRan s nodes)
   unfolding ran nodesRan
-  own-run s nodes o = go (eqb (firstMet (runChecks s nodes)) 0) refl
+  own-run s nodes o = go (eqb (firstMet (nodesChecks s (length nodes))) 0) refl
     where
-      go : (b : Bool) → eqb (firstMet (runChecks s nodes)) 0 ≡ b → Own (ran s nodes .session) (nodesRan s nodes)
+      go : (b : Bool) → eqb (firstMet (nodesChecks s (length nodes))) 0 ≡ b → Own (ran s nodes .session) (nodesRan s nodes)
       go true e = subst OwnHeld (run-steps s nodes (eqb-true _ 0 e) (o .marks)) (own-steps s nodes (planIn s) o)
       go false e = rw e o
 

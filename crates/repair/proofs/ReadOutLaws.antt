@@ -16,7 +16,8 @@ use Rattle.readout.specs.DataBlocks.{dataBlocks}
 use Rattle.repair.specs.declared.Session.{Session}
 use Rattle.repair.specs.declared.ReadOut.{ReadOut}
 use Rattle.repair.specs.Session.{noStart, nodeCountOf, nodesChecks}
-use Rattle.repair.specs.ReadOut.{missingIn, readOutChecks, readOut, objectOut, refusedOut}
+use Rattle.repair.specs.ReadOut.{missingIn, readOutChecks, readOut, objectOut}
+use Rattle.repair.proofs.Refused.{refusedOut}
 use Rattle.repair.proofs.StartLaws.{nodes-none}
 
 -- 13 and 6 are not 14

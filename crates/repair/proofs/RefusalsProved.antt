@@ -14,11 +14,12 @@ use Rattle.repair.specs.declared.Repairs.{Repairs}
 use Rattle.repair.specs.declared.Written.{Written}
 use Rattle.repair.specs.declared.ReadOut.{ReadOut}
 use Rattle.repair.specs.Session.{refusedStart, startChecks, started, nodesChecks}
-use Rattle.repair.specs.Boxed.{checkedBox, readChecks, readBox, nodesRead, writeChecks, refusedWrite, written, outWritten}
-use Rattle.repair.specs.ReadOut.{readOutChecks, refusedOut, readOut, objectOut}
-use Rattle.repair.specs.Step.{stepChecks, refusedStep, stepped, nodesStepped}
-use Rattle.repair.specs.Repairs.{refusedRepairs, planChecks, planned, outPlanned, runChecks, ran, nodesRan}
+use Rattle.repair.specs.Boxed.{checkedBox, readChecks, readBox, nodesRead, writeChecks, written, outWritten}
+use Rattle.repair.specs.ReadOut.{readOutChecks, readOut, objectOut}
+use Rattle.repair.specs.Step.{stepChecks, stepped, nodesStepped}
+use Rattle.repair.specs.Repairs.{refusedRepairs, planChecks, planned, outPlanned, ran, nodesRan}
 use Rattle.repair.specs.Refusals.{RefusalClaim, ThirteenClaim}
+use Rattle.repair.proofs.Refused.{refusedStep, refusedWrite, refusedOut}
 
 pub refusal-claim : RefusalClaim
 unfolding encoded encodeAnswer started checkedBox readBox nodesRead bodyOf written outWritten readOut objectOut stepped nodesStepped planned outPlanned ran nodesRan
@@ -36,7 +37,7 @@ refusal-claim =
       step = λ s nodes j a b h.
           refusal-keeps (stepChecks s nodes j a b) _ (refusedStep s) (λ (a : Stepped). a .refusal) (λ n. refl) refl h _ nodes;
       plan = λ s out h. refusal-keeps (planChecks s out) _ (refusedRepairs s) repairs-number (λ n. refl) refl h _ out;
-      run = λ s nodes h. refusal-keeps (runChecks s nodes) _ (refusedRepairs s) repairs-number (λ n. refl) refl h _ nodes;
+      run = λ s nodes h. refusal-keeps (nodesChecks s (length nodes)) _ (refusedRepairs s) repairs-number (λ n. refl) refl h _ nodes;
     }
   where
     start-number : Started → ℕ
@@ -46,6 +47,6 @@ refusal-claim =
     repairs-number answer = answer .refusal
 
 pub thirteen-claim : ThirteenClaim
-unfolding nodesChecks firstMet written readOut stepped planned ran writeChecks readOutChecks stepChecks planChecks runChecks
+unfolding nodesChecks firstMet written readOut stepped planned ran writeChecks readOutChecks stepChecks planChecks
 thirteen-claim s e =
     record { write = λ nodes list out. rw e; read-out = λ nodes object. rw e; step = λ nodes j a b. rw e; plan = λ out. rw e; run = λ nodes. rw e }

@@ -23,9 +23,9 @@ use Rattle.planning.proofs.MakeLaws.{left-few}
 use Rattle.planning.proofs.Proved.{plan-claim}
 use Rattle.repair.specs.declared.Session.{Session}
 use Rattle.repair.specs.declared.Repairs.{Repairs}
-use Rattle.repair.specs.Session.{sessionWith, nodeCountOf, noStart}
+use Rattle.repair.specs.Session.{sessionWith, nodeCountOf, noStart, nodesChecks}
 use Rattle.repair.specs.Step.{withLive}
-use Rattle.repair.specs.Repairs.{planIn, repairsOf, refusedRepairs, planChecks, planned, outPlanned, runChecks, ran, nodesRan}
+use Rattle.repair.specs.Repairs.{planIn, repairsOf, refusedRepairs, planChecks, planned, outPlanned, ran, nodesRan}
 
 -- a plan has at most a step for each node
 pub plan-few : (f : Family) (k : ℕ) → KInRange f k → (marks : List Bool) → length marks ≡ 256 → length (planOf f k marks) ≤ nodeCount f k
@@ -63,13 +63,13 @@ module _ (s : Session) where
     abbrev pub Runs : Repairs → List ℕ → Type 0
     Runs = Gives (ran s nodes) (nodesRan s nodes)
 
-    pub run-refused : (number : ℕ) → number ≡ firstMet (runChecks s nodes) → (number ≡ 0 → ⊥) → Runs (refusedRepairs s number) nodes
+    pub run-refused : (number : ℕ) → number ≡ firstMet (nodesChecks s (length nodes)) → (number ≡ 0 → ⊥) → Runs (refusedRepairs s number) nodes
     unfolding ran nodesRan
-    run-refused = refuses (runChecks s nodes) _ (refusedRepairs s) _ nodes
+    run-refused = refuses (nodesChecks s (length nodes)) _ (refusedRepairs s) _ nodes
 
-    pub run-made : firstMet (runChecks s nodes) ≡ 0 → Runs (repairsOf s (withLive s (repairedNodes (planIn s)))) (nodesMade (s .len) nodes (planIn s))
+    pub run-made : firstMet (nodesChecks s (length nodes)) ≡ 0 → Runs (repairsOf s (withLive s (repairedNodes (planIn s)))) (nodesMade (s .len) nodes (planIn s))
     unfolding ran nodesRan
-    run-made = serves (runChecks s nodes) _ (refusedRepairs s) _ nodes
+    run-made = serves (nodesChecks s (length nodes)) _ (refusedRepairs s) _ nodes
 
 -- ---- the plan that was made aside: its counts, and its steps in a list of bytes
 

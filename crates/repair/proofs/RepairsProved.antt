@@ -1,7 +1,8 @@
 -- The claims of specs/RepairClaims.antt.
 -- Assumes nothing.
 use mathlib.Core.Path.{_≡_, sym, _∙_, subst}
-use Prim.Native.Nat.{_*_}
+use mathlib.Core.List.{List}
+use Prim.Native.Nat.{ℕ, _*_}
 use lib.ListN.{length, drop}
 use Rattle.families.specs.Families.{familyOf}
 use Rattle.checks.specs.Checks.{firstMet}
@@ -12,11 +13,11 @@ use Rattle.planning.specs.Plan.{Step, repairedNodes, nodesLeft}
 use Rattle.planning.proofs.CarryLaws.{steps-back}
 use Rattle.planning.proofs.Proved.{plan-claim}
 use Rattle.repair.specs.declared.Session.{Session}
-use Rattle.repair.specs.Session.{nodeCountOf}
+use Rattle.repair.specs.Session.{nodeCountOf, nodesChecks}
 use Rattle.repair.specs.Step.{stepped}
-use Rattle.repair.specs.Repairs.{planIn, planned, outPlanned, runChecks, ran}
+use Rattle.repair.specs.Repairs.{planIn, planned, outPlanned, ran}
 use Rattle.repair.specs.Calls.{step, run, stateAfter}
-use Rattle.repair.specs.RepairClaims.{StepClaim, StaysClaim, LiveStaysClaim, PlanWritesClaim, RunIsStepsClaim, RunEndsClaim, PlacesKeptClaim, LiveKeptClaim, RunAgainClaim, OwnClaim}
+use Rattle.repair.specs.RepairClaims.{StepClaim, StaysClaim, LiveStaysClaim, PlanWritesClaim, RunClaims, RunClaim, OwnClaim}
 use Rattle.repair.proofs.Accepted.{read-out-accepted, step-passed, plan-accepted, run-accepted}
 use Rattle.repair.proofs.StartLaws.{nodes-0}
 use Rattle.repair.proofs.StepLaws.{accepted-step, step-accepted}
@@ -45,32 +46,34 @@ pub plan-writes : PlanWritesClaim
 unfolding planned outPlanned
 plan-writes s out h = let e = plan-accepted s out h in rw e (steps-back (planIn s) (drop (4 * length (planIn s)) out))
 
-pub run-is-steps : RunIsStepsClaim
-run-is-steps s size nodes h = run-steps s nodes (run-accepted s nodes h) size
+module _ (s : Session) (size : length (s .live) ≡ 256) (nodes : List ℕ) (h : ran s nodes .refusal ≡ 0) where
+  abbrev passed : firstMet (nodesChecks s (length nodes)) ≡ 0
+  passed = run-accepted s nodes h
 
-pub run-ends : RunEndsClaim
-run-ends s size nodes h =
-    let e = run-accepted s nodes h in
-    subst (λ (after : Session). NoPairLeft (familyOf (s .family)) (s .k) (isLive (after .live))) (sym (session-ran s nodes e))
-    (plan-claim (familyOf (s .family)) (s .k) (run-known s nodes e .range .blocks) (s .live) size .ends)
+  ends : NoPairLeft (familyOf (s .family)) (s .k) (isLive (ran s nodes .session .live))
+  ends =
+      subst (λ (after : Session). NoPairLeft (familyOf (s .family)) (s .k) (isLive (after .live))) (sym (session-ran s nodes passed))
+      (plan-claim (familyOf (s .family)) (s .k) (run-known s nodes passed .range .blocks) (s .live) size .ends)
 
-pub places-kept : PlacesKeptClaim
-places-kept s size nodes h j n m = run-keeps-left s nodes (run-accepted s nodes h) size j n m
+  run-claims : RunClaims s nodes
+  run-claims =
+      record {
+        steps = run-steps s nodes passed size;
+        ends = ends;
+        left-kept = run-keeps-left s nodes passed size;
+        live-kept = run-keeps-live s nodes passed size;
+        again = λ other l.
+            let next = ran s nodes .session in
+            let is = session-ran s nodes passed in
+            let marks : length (next .live) ≡ 256 = rw is (length-setLive (s .live) (repairedNodes (planIn s)) ∙ size) in
+            let again : firstMet (nodesChecks next (length other)) ≡ 0 = nodes-0 next (length other) (ran-sized s nodes passed size .starts) (rw is l) in
+            let done : NoPairLeft (familyOf (next .family)) (next .k) (isLive (next .live)) = rw is (rw is at ends) in
+            let left : ran s nodes .left ≡ nodesLeft (next .live) (nodeCountOf next) = rw is (ran-left s nodes h) in
+            record { answer = quiet-answer next other again marks done ∙ rw left; nodes-are = quiet-nodes next other again marks done };
+      }
 
-pub live-kept : LiveKeptClaim
-live-kept s size nodes h j n l = run-keeps-live s nodes (run-accepted s nodes h) size j n l
-
-pub run-again : RunAgainClaim
-unfolding runChecks
-run-again s size nodes a other h =
-    let e = run-accepted s nodes a in
-    let next = ran s nodes .session in
-    let is = session-ran s nodes e in
-    let marks : length (next .live) ≡ 256 = rw is (length-setLive (s .live) (repairedNodes (planIn s)) ∙ size) in
-    let again : firstMet (runChecks next other) ≡ 0 = nodes-0 next (length other) (ran-sized s nodes e size .starts) (rw is h) in
-    let done : NoPairLeft (familyOf (next .family)) (next .k) (isLive (next .live)) = rw is (rw is at (run-ends s size nodes a)) in
-    let left : ran s nodes .left ≡ nodesLeft (next .live) (nodeCountOf next) = rw is (ran-left s nodes a) in
-    record { answer = quiet-answer next other again marks done ∙ rw left; nodes-are = quiet-nodes next other again marks done }
+pub run-claim : RunClaim
+run-claim = run-claims
 
 pub own-claim : OwnClaim
 own-claim object s nodes marks size live moves =

@@ -23,7 +23,8 @@ use Rattle.planning.proofs.CarryLaws.{step-in}
 use Rattle.repair.specs.declared.Session.{Session}
 use Rattle.repair.specs.declared.Stepped.{Stepped}
 use Rattle.repair.specs.Session.{nodeCountOf, nodesChecks}
-use Rattle.repair.specs.Step.{stepChecks, withLive, refusedStep, stepped, nodesStepped}
+use Rattle.repair.specs.Step.{stepChecks, withLive, stepped, nodesStepped}
+use Rattle.repair.proofs.Refused.{refusedStep}
 use Rattle.repair.proofs.StartLaws.{known, nodes-none, Sized}
 
 -- a number that the test lets through is a node's

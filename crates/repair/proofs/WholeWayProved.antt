@@ -44,7 +44,7 @@ use Rattle.repair.proofs.StartLaws.{known, nodes-0}
 use Rattle.repair.proofs.ReadOutLaws.{by-block, accepted-out, read}
 use Rattle.repair.proofs.RoundTripLaws.{accepted-write, box-written, box-checked, accepted-read}
 use Rattle.repair.proofs.Proved.{read-body-claim, written-body-claim, box-start-claim}
-use Rattle.repair.proofs.RepairsProved.{run-ends, own-claim}
+use Rattle.repair.proofs.RepairsProved.{run-claim, own-claim}
 use Rattle.repair.proofs.LeftOverProved.{session-is, demand-3}
 use Rattle.repair.proofs.CallLaws.{FromStart, from-start}
 use Rattle.repair.proofs.OwnLaws.{ran-sized}
@@ -157,7 +157,7 @@ module _ (family k L : ℕ) (list : List ℕ) (h : started family k L list .refu
   ran-is = sym last-is ∙ session-is family k L list start all
 
   ends : (s : Session) (live : List ℕ) → s ≡ sessionOf family k L live → ran s nodes .refusal ≡ 0 → NoPairLeft f k (isLive (ran s nodes .session .live))
-  ends s live is a = rw is (run-ends (sessionOf family k L live) (length-setLive noneLive live) nodes (rw is at a))
+  ends s live is a = rw is (run-claim (sessionOf family k L live) (length-setLive noneLive live) nodes (rw is at a) .ends)
 
   -- so no pair is left after them, and demand 3 says which nodes are missing
   module _ (M : ℕ) (some : 1 ≤ M) where

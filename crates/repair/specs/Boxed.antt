@@ -55,14 +55,10 @@ writeChecks s nodes list out =
     ∷ (ltb (length out) (writtenLength s list) gives 6)
     ∷ []))
 
--- a refused write: its number, length 0, the session as handed in
-abbrev pub refusedWrite : Session → ℕ → Written
-refusedWrite s number = record { refusal = number; length = 0; session = s }
-
--- what writing gives: the length; the session stays
+-- what writing gives: the length; refused, its number and length 0. The session stays
 unfoldable pub written : Session → List ℕ → List ℕ → List ℕ → Written
 written s nodes list out =
-    answer (writeChecks s nodes list out) (record { refusal = 0; length = writtenLength s list; session = s }) (refusedWrite s)
+    answer (writeChecks s nodes list out) (record { refusal = 0; length = writtenLength s list; session = s }) (λ number. record { refusal = number; length = 0; session = s })
 
 -- the destination afterwards: the box, and beyond it what was there
 unfoldable pub outWritten : Session → List ℕ → List ℕ → List ℕ → List ℕ

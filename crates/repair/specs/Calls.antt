@@ -1,12 +1,13 @@
 -- Lists of calls: steps and runs, each getting the session that the one before gave back.
 use Prim.Native.Nat.{ℕ}
 use mathlib.Core.List.{List, [], _∷_, _++_}
+use lib.ListN.{length}
 use Rattle.checks.specs.Checks.{afterwards}
 use Rattle.planning.specs.Plan.{repairedNodes}
 use Rattle.repair.specs.declared.Session.{Session}
-use Rattle.repair.specs.Session.{sessionOf}
+use Rattle.repair.specs.Session.{sessionOf, nodesChecks}
 use Rattle.repair.specs.Step.{stepChecks, stepped, nodesStepped}
-use Rattle.repair.specs.Repairs.{planIn, runChecks, ran, nodesRan}
+use Rattle.repair.specs.Repairs.{planIn, ran, nodesRan}
 
 -- a step, with the node to repair and two others, or a run; any numbers
 pub data Move : Type 0 where
@@ -38,7 +39,7 @@ sessionAfterAll s (call ∷ calls) = sessionAfterAll (sessionAfter s (call .node
 -- the nodes that a call adds: none where it is turned away, else the node that the step repairs, or those that the plan repairs
 abbrev pub addedBy : Session → List ℕ → Move → List ℕ
 addedBy s nodes (step j a b) = afterwards (stepChecks s nodes j a b) (j ∷ []) []
-addedBy s nodes run = afterwards (runChecks s nodes) (repairedNodes (planIn s)) []
+addedBy s nodes run = afterwards (nodesChecks s (length nodes)) (repairedNodes (planIn s)) []
 
 -- live after a list: at first the nodes of the start's list, then those that each call adds to the nodes live before it
 unfoldable pub liveAfter : ℕ → ℕ → ℕ → List ℕ → List Call → List ℕ

@@ -23,13 +23,11 @@ readOutChecks s nodes object =
     ∷ (not (eqb (missingIn s) 0) gives 14)
     ∷ [])
 
--- refused: 14 comes with the lowest missing block, any other number with 0
-abbrev pub refusedOut : Session → ℕ → ReadOut
-refusedOut s number = record { refusal = number; block = cond (eqb number 14) (missingIn s) 0; session = s }
-
--- what read out gives; the session stays
+-- what read out gives: refused, 14 comes with the lowest missing block and any other number with 0. The session stays
 unfoldable pub readOut : Session → List ℕ → List ℕ → ReadOut
-readOut s nodes object = answer (readOutChecks s nodes object) (record { refusal = 0; block = 0; session = s }) (refusedOut s)
+readOut s nodes object =
+    answer (readOutChecks s nodes object) (record { refusal = 0; block = 0; session = s })
+    (λ number. record { refusal = number; block = cond (eqb number 14) (missingIn s) 0; session = s })
 
 -- the object afterwards
 unfoldable pub objectOut : Session → List ℕ → List ℕ → List ℕ

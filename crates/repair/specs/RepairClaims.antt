@@ -68,46 +68,35 @@ StaysClaim = (s : Session) → length (s .live) ≡ 256 → noStart s ≡ false
 abbrev pub LiveStaysClaim : Type 0
 LiveStaysClaim = (s : Session) (nodes : List ℕ) (move : Move) (j : ℕ) → isLive (s .live) j ≡ true → isLive (sessionAfter s nodes move .live) j ≡ true
 
--- ---- run and the plan's steps
-
--- a plan's step as a call
-abbrev pub asMove : Step → Move
-asMove made = step (made .node) (made .smaller) (made .larger)
+-- ---- plan and run
 
 -- what an accepted plan writes, read four bytes a step, is the session's plan
 abbrev pub PlanWritesClaim : Type 0
 PlanWritesClaim = (s : Session) (out : List ℕ) → planned s out .refusal ≡ 0 → stepsIn (outPlanned s out) (planned s out .steps) ≡ planIn s
-
--- an accepted run is the plan's steps made one after the other
-abbrev pub RunIsStepsClaim : Type 0
-RunIsStepsClaim = (s : Session) → length (s .live) ≡ 256 → (nodes : List ℕ) → ran s nodes .refusal ≡ 0
-    → stateAfter s nodes (map asMove (planIn s)) ≡ record { session = ran s nodes .session; nodes = nodesRan s nodes }
-
--- after an accepted run no missing node has a related pair with both nodes live
-abbrev pub RunEndsClaim : Type 0
-RunEndsClaim = (s : Session) → length (s .live) ≡ 256 → (nodes : List ℕ) → ran s nodes .refusal ≡ 0
-    → NoPairLeft (familyOf (s .family)) (s .k) (isLive (ran s nodes .session .live))
-
--- places of nodes left keep their bytes
-abbrev pub PlacesKeptClaim : Type 0
-PlacesKeptClaim = (s : Session) → length (s .live) ≡ 256 → (nodes : List ℕ) → ran s nodes .refusal ≡ 0
-    → (j : ℕ) → IsNode (familyOf (s .family)) (s .k) j → isLive (ran s nodes .session .live) j ≡ false
-    → blockOf (s .len) (nodesRan s nodes) j ≡ blockOf (s .len) nodes j
-
--- the blocks of nodes that were live before it stay as they were
-abbrev pub LiveKeptClaim : Type 0
-LiveKeptClaim = (s : Session) → length (s .live) ≡ 256 → (nodes : List ℕ) → ran s nodes .refusal ≡ 0
-    → (j : ℕ) → IsNode (familyOf (s .family)) (s .k) j → isLive (s .live) j ≡ true
-    → blockOf (s .len) (nodesRan s nodes) j ≡ blockOf (s .len) nodes j
 
 -- a run after a run repairs nothing: the same nodes left, session and buffer
 pub record RunAgain (s : Session) (nodes other : List ℕ) : Type 0 where
   pub answer : ran (ran s nodes .session) other ≡ record { refusal = 0; steps = 0; rounds = 0; left = ran s nodes .left; session = ran s nodes .session }
   pub nodes-are : nodesRan (ran s nodes .session) other ≡ other
 
-abbrev pub RunAgainClaim : Type 0
-RunAgainClaim = (s : Session) → length (s .live) ≡ 256 → (nodes : List ℕ) → ran s nodes .refusal ≡ 0
-    → (other : List ℕ) → length other ≡ nodeCountOf s * s .len → RunAgain s nodes other
+-- of a run
+pub record RunClaims (s : Session) (nodes : List ℕ) : Type 0 where
+  -- it is the plan's steps made one after the other
+  pub steps : stateAfter s nodes (map (λ (made : Step). step (made .node) (made .smaller) (made .larger)) (planIn s))
+      ≡ record { session = ran s nodes .session; nodes = nodesRan s nodes }
+  -- after it no missing node has a related pair with both nodes live
+  pub ends : NoPairLeft (familyOf (s .family)) (s .k) (isLive (ran s nodes .session .live))
+  -- places of nodes left keep their bytes, and so do those of nodes that were live before it
+  pub left-kept : (j : ℕ) → IsNode (familyOf (s .family)) (s .k) j → isLive (ran s nodes .session .live) j ≡ false
+      → blockOf (s .len) (nodesRan s nodes) j ≡ blockOf (s .len) nodes j
+  pub live-kept : (j : ℕ) → IsNode (familyOf (s .family)) (s .k) j → isLive (s .live) j ≡ true
+      → blockOf (s .len) (nodesRan s nodes) j ≡ blockOf (s .len) nodes j
+  -- a run after it repairs nothing
+  pub again : (other : List ℕ) → length other ≡ nodeCountOf s * s .len → RunAgain s nodes other
+
+-- of every accepted run
+abbrev pub RunClaim : Type 0
+RunClaim = (s : Session) → length (s .live) ≡ 256 → (nodes : List ℕ) → ran s nodes .refusal ≡ 0 → RunClaims s nodes
 
 -- ---- the object's own blocks (demand 2)
 

@@ -16,14 +16,10 @@ use Rattle.repair.specs.Step.{withLive}
 abbrev pub planIn : Session → List Step
 planIn s = planOf (familyOf (s .family)) (s .k) (s .live)
 
--- its nodes left: those missing once its steps are made
-abbrev pub leftIn : Session → ℕ
-leftIn s = nodesLeft (marksAfter (s .live) (planIn s)) (nodeCountOf s)
-
--- steps, rounds and nodes left of a session's plan, with the session that is handed back
+-- steps and rounds of a session's plan, its nodes left, which are those missing once the steps are made, and the session handed back
 abbrev pub repairsOf : Session → Session → Repairs
 repairsOf s next =
-    record { refusal = 0; steps = length (planIn s); rounds = lastRound (planIn s); left = leftIn s; session = next }
+    record { refusal = 0; steps = length (planIn s); rounds = lastRound (planIn s); left = nodesLeft (marksAfter (s .live) (planIn s)) (nodeCountOf s); session = next }
 
 -- a refusal: its number and zeros, the session as handed in
 abbrev pub refusedRepairs : Session → ℕ → Repairs
@@ -41,14 +37,10 @@ planned s out = answer (planChecks s out) (repairsOf s s) (refusedRepairs s)
 unfoldable pub outPlanned : Session → List ℕ → List ℕ
 outPlanned s out = afterwards (planChecks s out) (stepBytes (planIn s) ++ drop (4 * length (planIn s)) out) out
 
--- Run: 13, 6
-unfoldable pub runChecks : Session → List ℕ → List Check
-runChecks s nodes = nodesChecks s (length nodes)
-
--- what a run gives: the next session has the repaired nodes live
+-- what a run gives, its checks being 13 and 6: the next session has the repaired nodes live
 unfoldable pub ran : Session → List ℕ → Repairs
-ran s nodes = answer (runChecks s nodes) (repairsOf s (withLive s (repairedNodes (planIn s)))) (refusedRepairs s)
+ran s nodes = answer (nodesChecks s (length nodes)) (repairsOf s (withLive s (repairedNodes (planIn s)))) (refusedRepairs s)
 
 -- the nodes buffer afterwards: the plan's steps made; places of nodes left keep their bytes
 unfoldable pub nodesRan : Session → List ℕ → List ℕ
-nodesRan s nodes = afterwards (runChecks s nodes) (nodesMade (s .len) nodes (planIn s)) nodes
+nodesRan s nodes = afterwards (nodesChecks s (length nodes)) (nodesMade (s .len) nodes (planIn s)) nodes

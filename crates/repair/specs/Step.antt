@@ -25,13 +25,10 @@ stepChecks s nodes j a b =
 abbrev pub withLive : Session → List ℕ → Session
 withLive s list = sessionWith (s .family) (s .k) (s .len) (setLive (s .live) list)
 
--- a refused step: its number, the session as handed in
-abbrev pub refusedStep : Session → ℕ → Stepped
-refusedStep s number = record { refusal = number; session = s }
-
--- what a step gives: the node becomes live
+-- what a step gives: the node becomes live; refused, its number and the session as handed in
 unfoldable pub stepped : Session → List ℕ → ℕ → ℕ → ℕ → Stepped
-stepped s nodes j a b = answer (stepChecks s nodes j a b) (record { refusal = 0; session = withLive s (j ∷ []) }) (refusedStep s)
+stepped s nodes j a b =
+    answer (stepChecks s nodes j a b) (record { refusal = 0; session = withLive s (j ∷ []) }) (λ number. record { refusal = number; session = s })
 
 -- the nodes buffer afterwards: the node's block is the XOR of the two
 unfoldable pub nodesStepped : Session → List ℕ → ℕ → ℕ → ℕ → List ℕ

@@ -8,7 +8,7 @@ use lib.ListN.{length}
 use Rattle.checks.specs.Checks.{firstMet}
 use Rattle.planning.specs.Plan.{Step}
 use Rattle.planning.specs.Made.{nodesMade}
-use Rattle.repair.specs.Repairs.{runChecks}
+use Rattle.repair.specs.Session.{nodesChecks}
 use Rattle.repair.proofs.StartLaws.{Sized, sized, known}
 use Rattle.repair.proofs.RepairsLaws.{run-refused, run-made, made-ran, made-back, made-in}
 use Rattle.repair.proofs.Session.run.Statement.{statement}
@@ -31,16 +31,13 @@ carried-of c = c .before .before .before .before
 
 -- ---- what is known there
 
-passed : (c : tie.Else1) → let g = start (c .before) .args in firstMet (runChecks (g .self) (g .nodes .now)) ≡ 0
-unfolding runChecks
+passed : (c : tie.Else1) → let g = start (c .before) .args in firstMet (nodesChecks (g .self) (length (g .nodes .now))) ≡ 0
 passed c = sym (c .before .nodes-refusal .ensures) ∙ c .if1 .left
 
 buffer : (c : tie.Else1) → let g = start (c .before) .args in Sized (g .self) (length (g .nodes .now))
-unfolding runChecks
 buffer c = sized _ _ (passed c)
 
 returns : tie.Need-returns
-unfolding runChecks
 returns c =
     let e = c .before .before in
     let g = start e .args in
