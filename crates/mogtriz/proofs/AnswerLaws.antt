@@ -5,7 +5,6 @@ use mathlib.Core.Bool.{Bool, true, false, cond}
 use mathlib.Core.List.{List}
 use mathlib.Core.Logic.{_⊎_, inl, inr}
 use Prim.Native.Nat.{ℕ}
-use native.Mathlib.Omega.{arith}
 use borrow.Author.Tests.{ne-eqb}
 use lib.Dec.{eqb}
 use lib.ListN.{length}
@@ -21,8 +20,6 @@ use Rattle.repair.specs.Boxed.{writeChecks, written}
 use Rattle.repair.specs.ReadOut.{readOutChecks, readOut}
 use Rattle.repair.specs.Session.{nodesChecks}
 use Rattle.mogtriz.specs.declared.sessions.MarkedSession.{MarkedSession}
-use Rattle.mogtriz.specs.declared.repairs.StepAnswer.{StepAnswer}
-use Rattle.mogtriz.specs.declared.repairs.RepairsAnswer.{RepairsAnswer}
 use Rattle.mogtriz.specs.Sessions.{someAbove1, sessionForC}
 use Rattle.mogtriz.specs.Repairs.{handedBack, steppedC, ranC}
 use Rattle.repair.proofs.Refused.{refusedStep, refusedWrite, refusedOut}
@@ -46,11 +43,11 @@ module _ (s : MarkedSession) where
 
   pub step-low : (nodes : List ℕ) (j a b : ℕ) → Low (steppedC s nodes j a b .refusal) (steppedC s nodes j a b .session)
   unfolding steppedC
-  step-low nodes j a b = either (λ (r : StepAnswer). Low (r .refusal) (r .session)) (someAbove1 (s .live)) (λ e. absurd (omega arith)) (handed-low _ _)
+  step-low nodes j a b = handed-low _ _
 
   pub run-low : (nodes : List ℕ) → Low (ranC s nodes .refusal) (ranC s nodes .session)
   unfolding ranC
-  run-low nodes = either (λ (r : RepairsAnswer). Low (r .refusal) (r .session)) (someAbove1 (s .live)) (λ e. absurd (omega arith)) (handed-low _ _)
+  run-low nodes = handed-low _ _
 
 -- refused, the session that was handed in
 pub kept-session : (s : MarkedSession) (refusal : ℕ) (next : Session) → (refusal ≡ 0 → ⊥) → handedBack s refusal next ≡ s

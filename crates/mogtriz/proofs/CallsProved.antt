@@ -3,7 +3,7 @@
 use mathlib.Core.Path.{_≡_, refl, sym, ap, ap₂, _∙_, subst}
 use mathlib.Core.Bool.{Bool, true, false}
 use mathlib.Core.List.{List}
-use mathlib.Core.Logic.{_↔_}
+use mathlib.Core.Logic.{_↔_, inl}
 use Prim.Native.Nat.{ℕ, _*_, _≤_}
 use native.Mathlib.Omega.{arith}
 use lib.ListN.{length, take, drop, length-map}
@@ -12,8 +12,8 @@ use Rattle.boxes.specs.Box.{namesIn}
 use Rattle.repair.specs.declared.Session.{Session}
 use Rattle.repair.specs.declared.Written.{Written}
 use Rattle.repair.specs.declared.ReadOut.{ReadOut}
-use Rattle.repair.specs.Boxed.{readBox, nodesRead, written}
-use Rattle.repair.specs.ReadOut.{readOut}
+use Rattle.repair.specs.Boxed.{readBox, nodesRead, written, outWritten}
+use Rattle.repair.specs.ReadOut.{readOut, objectOut}
 use Rattle.repair.specs.Repairs.{ran, nodesRan}
 use Rattle.repair.specs.Calls.{Move, State, stateAfter}
 use Rattle.repair.specs.LeftOver.{lastSession}
@@ -27,13 +27,13 @@ use Rattle.mogtriz.specs.declared.sessions.MarkedSession.{MarkedSession}
 use Rattle.mogtriz.specs.declared.sessions.WriteAnswer.{WriteAnswer}
 use Rattle.mogtriz.specs.declared.sessions.ReadOutAnswer.{ReadOutAnswer}
 use Rattle.mogtriz.specs.declared.repairs.RepairsAnswer.{RepairsAnswer}
-use Rattle.mogtriz.specs.Sessions.{markOf, someAbove1, sessionForC, sessionOfC, readOutC, objectOutC}
-use Rattle.mogtriz.specs.Repairs.{ranC, nodesRanC}
+use Rattle.mogtriz.specs.Sessions.{byteOf, someAbove1, sessionForC, sessionOfC, readOutC}
+use Rattle.mogtriz.specs.Repairs.{ranC}
 use Rattle.mogtriz.specs.Claims.{Demand3C, OwnC, OwnCClaim, boxAwayC, stateAtC, OnTheWayC, OutWhereOpenC, WholeWayCClaim}
 use Rattle.mogtriz.proofs.MarkLaws.{byte-at}
-use Rattle.mogtriz.proofs.Proved.{there-and-back, back-and-there, agree-claim}
+use Rattle.mogtriz.proofs.Proved.{there-and-back, back-and-there, thirteen-c-claim, agree-claim}
 use Rattle.mogtriz.proofs.AnswerLaws.{read-out-kept}
-use Rattle.mogtriz.proofs.CallLaws.{last-agrees, state-agrees, state-stays, not-read}
+use Rattle.mogtriz.proofs.CallLaws.{last-agrees, state-agrees, state-stays}
 
 pub demand-3-c : Demand3C
 demand-3-c family k L list e calls M h =
@@ -57,7 +57,7 @@ own-agrees object s nodes moves o =
     let held = state-agrees s nodes moves in
     record {
       live = rw held (subst (λ (t : Session). LiveAreOwn object t (after .nodes)) (sym (there-and-back (after .session))) (o .live));
-      out = λ result. rw (held, agree-claim (after .session) .read-out (after .nodes) result, agree-claim (after .session) .read-out-object (after .nodes) result) (o .out result);
+      out = λ result. rw (held, agree-claim (after .session) .read-out (after .nodes) result, there-and-back (after .session)) (o .out result);
     }
 
 pub own-c-claim : OwnCClaim
@@ -66,18 +66,21 @@ own-c-claim object s nodes marks size live moves = go (someAbove1 (s .live)) ref
     go : (above : Bool) → someAbove1 (s .live) ≡ above → OwnC object s nodes moves
     go true e =
         let held = state-stays s e nodes moves in
-        record { live = rw held live; out = λ result a. absurd (omega (arith, rw (held, not-read s e nodes result) at a)) }
+        record { live = rw held live; out = λ result a. absurd (omega (arith, rw held at a, thirteen-c-claim s (inl e) .read-out nodes result)) }
     go false e =
-        subst (λ (t : MarkedSession). OwnC object t nodes moves) (back-and-there s e)
-        (own-agrees object (sessionOfC s) nodes moves (own-claim object (sessionOfC s) nodes (length-map (s .live) markOf ∙ marks) size live moves))
+        let is = back-and-there s e in
+        let n = sym (length-map (sessionOfC s .live) byteOf) ∙ ap (λ (t : MarkedSession). length (t .live)) is ∙ marks in
+        subst (λ (t : MarkedSession). OwnC object t nodes moves) is
+        (own-agrees object (sessionOfC s) nodes moves (own-claim object (sessionOfC s) nodes n (size ∙ ap (λ (t : MarkedSession). t .k * t .len) (sym is)) live moves))
 
 -- the box that C finds at the start of its destination is the box that is put away
 box-agrees : (way : Way) → written (startOf way .session) (nodesEncoded way) (way .list) (way .out) .refusal ≡ 0 → boxAwayC way ≡ boxAway way
 box-agrees way h =
     let s = startOf way .session in
-    let a = agree-claim s in
     let c = write-read-claim s (nodesEncoded way) (way .list) (way .out) h in
-    ap₂ (λ (r : WriteAnswer) (b : List ℕ). take (r .length) b) (a .write (nodesEncoded way) (way .list) (way .out)) (a .write-out (nodesEncoded way) (way .list) (way .out))
+    ap₂ (λ (r : WriteAnswer) (t : Session). take (r .length) (outWritten t (nodesEncoded way) (way .list) (way .out)))
+    (agree-claim s .write (nodesEncoded way) (way .list) (way .out))
+    (there-and-back s)
     ∙ ap₂ (λ (r : Written) (b : List ℕ). take (r .length) b) (c .answer) (c .rest)
     ∙ take-append-seam (boxAway way) (drop (length (boxAway way)) (way .out))
 
@@ -127,9 +130,9 @@ module _ (way : Way) (on : OnTheWayC way) (moves : List Move) where
   run-is = ap (λ (r : RepairsAnswer). r .session) (agree-claim (at-end .session) .run (at-end .nodes))
 
   back : (result : List ℕ) → length result ≡ way .k * way .len → (M : ℕ) → 1 ≤ M
-      → OutWhereOpenC (ranC (sessionForC (at-end .session)) (at-end .nodes) .session) (nodesRanC (sessionForC (at-end .session)) (at-end .nodes)) result (namesIn (boxAway way)) M
+      → OutWhereOpenC (ranC (sessionForC (at-end .session)) (at-end .nodes) .session) (nodesRan (sessionOfC (sessionForC (at-end .session))) (at-end .nodes)) result (namesIn (boxAway way)) M
   back result size M some =
-      rw (run-is, agree-claim (at-end .session) .run-nodes (at-end .nodes))
+      rw (run-is, there-and-back (at-end .session))
       (out-agrees (ran (at-end .session) (at-end .nodes) .session) (nodesRan (at-end .session) (at-end .nodes)) result (namesIn (boxAway way)) M (whole .back result size M some))
 
 module _ (way : Way) (on : OnTheWayC way) (moves : List Move) where
@@ -140,10 +143,10 @@ module _ (way : Way) (on : OnTheWayC way) (moves : List Move) where
   after = nodesRan (stateAt way moves .session) (stateAt way moves .nodes)
 
   again : (result : List ℕ)
-      → readOutC (ranC (sessionForC (stateAt way moves .session)) (stateAt way moves .nodes) .session) (nodesRanC (sessionForC (stateAt way moves .session)) (stateAt way moves .nodes)) result .refusal ≡ 0
-      → objectOutC (ranC (sessionForC (stateAt way moves .session)) (stateAt way moves .nodes) .session) (nodesRanC (sessionForC (stateAt way moves .session)) (stateAt way moves .nodes)) result ≡ way .object
+      → readOutC (ranC (sessionForC (stateAt way moves .session)) (stateAt way moves .nodes) .session) (nodesRan (sessionOfC (sessionForC (stateAt way moves .session))) (stateAt way moves .nodes)) result .refusal ≡ 0
+      → objectOut (sessionOfC (ranC (sessionForC (stateAt way moves .session)) (stateAt way moves .nodes) .session)) (nodesRan (sessionOfC (sessionForC (stateAt way moves .session))) (stateAt way moves .nodes)) result ≡ way .object
   again result =
-      rw (run-is way on moves, agree-claim (stateAt way moves .session) .run-nodes (stateAt way moves .nodes), agree-claim next .read-out after result, agree-claim next .read-out-object after result)
+      rw (run-is way on moves, there-and-back (stateAt way moves .session), agree-claim next .read-out after result, there-and-back next)
       (whole way on moves .again result)
 
 pub whole-way-c-claim : WholeWayCClaim

@@ -1,7 +1,7 @@
 -- The claims of specs/Claims.antt: a session handed to C and back, the session in an answer, and the calls that agree.
 -- Assumes nothing.
-use mathlib.Core.Path.{_≡_, refl, sym, _∙_}
-use mathlib.Core.Bool.{Bool, true, false, false≢true}
+use mathlib.Core.Path.{_≡_, refl, sym}
+use mathlib.Core.Bool.{Bool, true, false}
 use mathlib.Core.Logic.{_⊎_, inl, inr}
 use Prim.Native.Nat.{ℕ}
 use native.Mathlib.Decide.{ℕ-discrete}
@@ -14,24 +14,25 @@ use Rattle.families.proofs.Proved.{family-claims}
 use Rattle.checks.specs.Claims.{InRange}
 use Rattle.checks.proofs.Laws.{range-claim}
 use Rattle.boxes.specs.Box.{bodyChecks, bodyOf}
+use Rattle.checks.specs.Parameters.{parameterChecks}
 use Rattle.repair.specs.Session.{noStart}
 use Rattle.repair.proofs.RefusalsProved.{refusal-claim, thirteen-claim}
-use Rattle.mogtriz.specs.declared.sessions.WriteAnswer.{WriteAnswer}
-use Rattle.mogtriz.specs.declared.sessions.ReadOutAnswer.{ReadOutAnswer}
-use Rattle.mogtriz.specs.declared.repairs.RepairsAnswer.{RepairsAnswer}
-use Rattle.mogtriz.specs.Sessions.{someAbove1, sessionOfC, writtenC, outWrittenC, readOutC, objectOutC, partIn}
+use Rattle.mogtriz.specs.declared.sessions.MarkedSession.{MarkedSession}
+use Rattle.mogtriz.specs.Sessions.{someAbove1, sessionOfC, writtenC, readOutC, partIn}
 use Rattle.mogtriz.specs.Exports.{nodeCountOr0, isNode, columnOr0, nodeOr0, relatedOr0}
-use Rattle.mogtriz.specs.Repairs.{steppedC, nodesSteppedC, plannedC, outPlannedC, ranC, nodesRanC}
-use Rattle.mogtriz.specs.Claims.{ThereAndBackClaim, BackAndThereClaim, StartedMarksClaim, HandedBackClaim, RefusedStartClaim, TurnedAway, TurnedAwayClaim, ThirteenC, ThirteenCClaim, SameFieldsClaim, PartOf, PartClaim, AnswersClaim, AgreeClaim}
+use Rattle.mogtriz.specs.Repairs.{steppedC, plannedC, ranC}
+use Rattle.mogtriz.specs.Claims.{ThereAndBackClaim, BackAndThereClaim, StartedMarksClaim, HandedBackClaim, RefusedStartClaim, TurnedAwayClaim, ThirteenC, ThirteenCClaim, SameFieldsClaim, PartOf, PartClaim, AnswersClaim, AgreeClaim}
 use Rattle.mogtriz.proofs.Laws.{count-accepted}
 use Rattle.mogtriz.proofs.MarkLaws.{marks-back, bytes-back, marks-low}
 use Rattle.mogtriz.proofs.AnswerLaws.{kept-session, either, step-low, run-low, step-done, run-done, handed-on, plan-kept, write-kept, read-out-kept}
 
 pub there-and-back : ThereAndBackClaim
-there-and-back s = rw (marks-back (s .live))
+unfolding sessionOfC
+there-and-back s = rw (marks-low (s .live), marks-back (s .live))
 
 pub back-and-there : BackAndThereClaim
-back-and-there s h = rw (bytes-back (s .live) h)
+unfolding sessionOfC
+back-and-there s h = rw (h, bytes-back (s .live) h)
 
 pub started-marks-claim : StartedMarksClaim
 started-marks-claim answer = marks-low (answer .session .live)
@@ -42,54 +43,44 @@ handed-back-claim s =
     record {
       step-marks = step-low s;
       run-marks = run-low s;
-      plan = λ out. either (λ (r : RepairsAnswer). r .session ≡ s) (someAbove1 (s .live)) refl refl;
-      write = λ nodes list out. either (λ (r : WriteAnswer). r .session ≡ s) (someAbove1 (s .live)) refl refl;
-      read-out = λ nodes object. either (λ (r : ReadOutAnswer). r .session ≡ s) (someAbove1 (s .live)) refl refl;
+      plan = λ out. refl;
+      write = λ nodes list out. refl;
+      read-out = λ nodes object. refl;
     }
 
 pub refused-start-claim : RefusedStartClaim
 refused-start-claim number = refl
 
--- with a byte above 1 or without, by what the session's own operation gives
+-- by what the session's own operation gives
 pub turned-away-claim : TurnedAwayClaim
-unfolding steppedC nodesSteppedC plannedC outPlannedC ranC nodesRanC writtenC outWrittenC readOutC objectOutC
-turned-away-claim s = go (someAbove1 (s .live)) refl
-  where
-    go : (above : Bool) → someAbove1 (s .live) ≡ above → TurnedAway s
-    go true e =
-        record {
-          step = λ nodes j a b h. (rw e, rw e);
-          plan = λ out h. (rw e, rw e);
-          run = λ nodes h. (rw e, rw e);
-          write = λ nodes list out h. (rw e, rw e);
-          read-out = λ nodes object h. rw e;
-        }
-    go false e =
-        let own = refusal-claim in
-        record {
-          step = λ nodes j a b h. let r = own .step (sessionOfC s) nodes j a b (rw e at h) in (rw (e, kept-session s _ _ (rw e at h)), rw (e, r .1));
-          plan = λ out h. let r = own .plan (sessionOfC s) out (rw e at h) in (rw (e, r .0), rw (e, r .1));
-          run = λ nodes h. let r = own .run (sessionOfC s) nodes (rw e at h) in (rw (e, kept-session s _ _ (rw e at h), r .0), rw (e, r .1));
-          write = λ nodes list out h. let r = own .write (sessionOfC s) nodes list out (rw e at h) in (rw (e, r .0), rw (e, r .1));
-          read-out = λ nodes object h. rw (e, own .read-out (sessionOfC s) nodes object (rw e at h) .1);
-        }
+unfolding steppedC plannedC ranC writtenC readOutC
+turned-away-claim s =
+    let own = refusal-claim in
+    record {
+      step = λ nodes j a b h. (rw (kept-session s _ _ h), own .step (sessionOfC s) nodes j a b h .1);
+      plan = λ out h. let r = own .plan (sessionOfC s) out h in (rw (r .0), r .1);
+      run = λ nodes h. let r = own .run (sessionOfC s) nodes h in (rw (kept-session s _ _ h, r .0), r .1);
+      write = λ nodes list out h. let r = own .write (sessionOfC s) nodes list out h in (rw (r .0), r .1);
+      read-out = λ nodes object h. own .read-out (sessionOfC s) nodes object h .1;
+    }
+
+-- a session with a byte above 1 is taken in as one that no start gives
+no-start : (s : MarkedSession) → someAbove1 (s .live) ≡ true → noStart (sessionOfC s) ≡ true
+unfolding sessionOfC noStart parameterChecks firstMet
+no-start s h = rw h
 
 pub thirteen-c-claim : ThirteenCClaim
 unfolding steppedC plannedC ranC writtenC readOutC
-thirteen-c-claim s due = go (someAbove1 (s .live)) refl due
+thirteen-c-claim s due = go due
   where
-    go : (above : Bool) → someAbove1 (s .live) ≡ above → (someAbove1 (s .live) ≡ true) ⊎ (noStart (sessionOfC s) ≡ true) → ThirteenC s
-    go true e d = record { step = λ nodes j a b. rw e; plan = λ out. rw e; run = λ nodes. rw e; write = λ nodes list out. rw e; read-out = λ nodes object. rw e }
-    go false e (inl t) = absurd (false≢true (sym e ∙ t))
-    go false e (inr n) =
-        let own = thirteen-claim (sessionOfC s) n in
-        record {
-          step = λ nodes j a b. rw (e, own .step nodes j a b);
-          plan = λ out. rw (e, own .plan out);
-          run = λ nodes. rw (e, own .run nodes);
-          write = λ nodes list out. rw (e, own .write nodes list out);
-          read-out = λ nodes object. rw (e, own .read-out nodes object);
-        }
+    own : noStart (sessionOfC s) ≡ true → ThirteenC s
+    own n =
+        let t = thirteen-claim (sessionOfC s) n in
+        record { step = t .step; plan = t .plan; run = t .run; write = t .write; read-out = t .read-out }
+
+    go : (someAbove1 (s .live) ≡ true) ⊎ (noStart (sessionOfC s) ≡ true) → ThirteenC s
+    go (inl above) = own (no-start s above)
+    go (inr n) = own n
 
 pub part-claim : PartClaim
 unfolding partIn bodyOf
@@ -132,21 +123,15 @@ answers-claim family k range =
       unrelated = λ a b c na nb nc r. simp (is-a-node family k range a na, is-a-node family k range b nb, is-a-node family k range c nc, r);
     }
 
--- a session in C's form has no byte above 1, and is the session again once it is taken in
+-- a session in C's form is the session again once it is taken in
 pub agree-claim : AgreeClaim
-unfolding steppedC nodesSteppedC plannedC outPlannedC ranC nodesRanC writtenC outWrittenC readOutC objectOutC
+unfolding steppedC plannedC ranC writtenC readOutC
 agree-claim s =
-    let low = marks-low (s .live) in
     let back = there-and-back s in
     record {
-      step = λ nodes j a b. rw (low, back, handed-on s _ _ (step-done s nodes j a b));
-      step-nodes = λ nodes j a b. rw (low, back);
-      plan = λ out. rw (low, back, plan-kept s out);
-      plan-out = λ out. rw (low, back);
-      run = λ nodes. rw (low, back, handed-on s _ _ (run-done s nodes));
-      run-nodes = λ nodes. rw (low, back);
-      write = λ nodes list out. rw (low, back, write-kept s nodes list out);
-      write-out = λ nodes list out. rw (low, back);
-      read-out = λ nodes object. rw (low, back, read-out-kept s nodes object);
-      read-out-object = λ nodes object. rw (low, back);
+      step = λ nodes j a b. rw (back, handed-on s _ _ (step-done s nodes j a b));
+      plan = λ out. rw (back, plan-kept s out);
+      run = λ nodes. rw (back, handed-on s _ _ (run-done s nodes));
+      write = λ nodes list out. rw (back, write-kept s nodes list out);
+      read-out = λ nodes object. rw (back, read-out-kept s nodes object);
     }

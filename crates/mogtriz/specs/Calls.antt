@@ -2,10 +2,12 @@
 use Prim.Native.Nat.{ℕ}
 use mathlib.Core.List.{List, [], _∷_}
 use Rattle.repair.specs.Session.{started}
+use Rattle.repair.specs.Step.{nodesStepped}
+use Rattle.repair.specs.Repairs.{nodesRan}
 use Rattle.repair.specs.Calls.{Move, step, run, Call}
 use Rattle.mogtriz.specs.declared.sessions.MarkedSession.{MarkedSession}
-use Rattle.mogtriz.specs.Sessions.{startedC}
-use Rattle.mogtriz.specs.Repairs.{steppedC, nodesSteppedC, ranC, nodesRanC}
+use Rattle.mogtriz.specs.Sessions.{sessionOfC, startedC}
+use Rattle.mogtriz.specs.Repairs.{steppedC, ranC}
 
 -- the session in the answer of a call on a nodes buffer
 abbrev pub sessionAfterC : MarkedSession → List ℕ → Move → MarkedSession
@@ -14,8 +16,8 @@ sessionAfterC s nodes run = ranC s nodes .session
 
 -- the nodes buffer after a call
 abbrev pub nodesAfterC : MarkedSession → List ℕ → Move → List ℕ
-nodesAfterC s nodes (step j a b) = nodesSteppedC s nodes j a b
-nodesAfterC s nodes run = nodesRanC s nodes
+nodesAfterC s nodes (step j a b) = nodesStepped (sessionOfC s) nodes j a b
+nodesAfterC s nodes run = nodesRan (sessionOfC s) nodes
 
 -- ---- each call with its own nodes buffer
 

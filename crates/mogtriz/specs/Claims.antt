@@ -26,8 +26,8 @@ use Rattle.repair.specs.Calls.{Move, run, Call, liveAfter}
 use Rattle.repair.specs.RepairClaims.{LiveAreOwn}
 use Rattle.repair.specs.WholeWay.{LowestOpen, NoneOpen, Way, startOf, nodesEncoded}
 use Rattle.mogtriz.specs.declared.sessions.MarkedSession.{MarkedSession}
-use Rattle.mogtriz.specs.Sessions.{someAbove1, sessionForC, sessionOfC, startedC, writtenC, outWrittenC, readOutC, objectOutC, partIn}
-use Rattle.mogtriz.specs.Repairs.{steppedC, nodesSteppedC, plannedC, outPlannedC, ranC, nodesRanC}
+use Rattle.mogtriz.specs.Sessions.{someAbove1, sessionForC, sessionOfC, startedC, writtenC, readOutC, partIn}
+use Rattle.mogtriz.specs.Repairs.{steppedC, plannedC, ranC}
 use Rattle.mogtriz.specs.Exports.{nodeCountOr0, columnOr0, nodeOr0, relatedOr0}
 use Rattle.mogtriz.specs.Calls.{lastSessionC, StateC, stateAfterC}
 
@@ -78,14 +78,14 @@ RefusedStartClaim = (number : ℕ) → startedC (refusedStart number) ≡ record
 -- of any session handed in: a refusal gives its number and zeros, the session as it was, and no byte is written
 pub record TurnedAway (s : MarkedSession) : Type 0 where
   pub step : (nodes : List ℕ) (j a b : ℕ) → Refused (steppedC s nodes j a b .refusal)
-      → (steppedC s nodes j a b ≡ record { refusal = steppedC s nodes j a b .refusal; session = s }) × (nodesSteppedC s nodes j a b ≡ nodes)
+      → (steppedC s nodes j a b ≡ record { refusal = steppedC s nodes j a b .refusal; session = s }) × (nodesStepped (sessionOfC s) nodes j a b ≡ nodes)
   pub plan : (out : List ℕ) → Refused (plannedC s out .refusal)
-      → (plannedC s out ≡ record { refusal = plannedC s out .refusal; steps = 0; rounds = 0; left = 0; session = s }) × (outPlannedC s out ≡ out)
+      → (plannedC s out ≡ record { refusal = plannedC s out .refusal; steps = 0; rounds = 0; left = 0; session = s }) × (outPlanned (sessionOfC s) out ≡ out)
   pub run : (nodes : List ℕ) → Refused (ranC s nodes .refusal)
-      → (ranC s nodes ≡ record { refusal = ranC s nodes .refusal; steps = 0; rounds = 0; left = 0; session = s }) × (nodesRanC s nodes ≡ nodes)
+      → (ranC s nodes ≡ record { refusal = ranC s nodes .refusal; steps = 0; rounds = 0; left = 0; session = s }) × (nodesRan (sessionOfC s) nodes ≡ nodes)
   pub write : (nodes list out : List ℕ) → Refused (writtenC s nodes list out .refusal)
-      → (writtenC s nodes list out ≡ record { refusal = writtenC s nodes list out .refusal; length = 0; session = s }) × (outWrittenC s nodes list out ≡ out)
-  pub read-out : (nodes object : List ℕ) → Refused (readOutC s nodes object .refusal) → objectOutC s nodes object ≡ object
+      → (writtenC s nodes list out ≡ record { refusal = writtenC s nodes list out .refusal; length = 0; session = s }) × (outWritten (sessionOfC s) nodes list out ≡ out)
+  pub read-out : (nodes object : List ℕ) → Refused (readOutC s nodes object .refusal) → objectOut (sessionOfC s) nodes object ≡ object
 
 abbrev pub TurnedAwayClaim : Type 0
 TurnedAwayClaim = (s : MarkedSession) → TurnedAway s
@@ -104,48 +104,31 @@ ThirteenCClaim = (s : MarkedSession) → (someAbove1 (s .live) ≡ true) ⊎ (no
 
 -- ---- the calls agree
 
--- of a session in C's form, each call gives C what the session's own operation gives, and leaves the same bytes
+-- of a session in C's form, each call gives C what the session's own operation gives. Of a lent buffer nothing is left to say: it
+-- holds what the own operation leaves for the session that comes back from C, and that is the same session (ThereAndBackClaim)
 pub record Agree (s : Session) : Type 0 where
   -- mogtriz_step
-  pub step : (nodes : List ℕ) (j a b : ℕ) → steppedC (sessionForC s) nodes j a b
-      ≡ record { refusal = stepped s nodes j a b .refusal; session = sessionForC (stepped s nodes j a b .session) }
-  pub step-nodes : (nodes : List ℕ) (j a b : ℕ) → nodesSteppedC (sessionForC s) nodes j a b ≡ nodesStepped s nodes j a b
+  pub step : (nodes : List ℕ) (j a b : ℕ)
+      → let own = stepped s nodes j a b in
+      steppedC (sessionForC s) nodes j a b ≡ record { refusal = own .refusal; session = sessionForC (own .session) }
   -- mogtriz_plan
-  pub plan : (out : List ℕ) → plannedC (sessionForC s) out
-      ≡ record {
-        refusal = planned s out .refusal;
-        steps = planned s out .steps;
-        rounds = planned s out .rounds;
-        left = planned s out .left;
-        session = sessionForC (planned s out .session);
-      }
-  pub plan-out : (out : List ℕ) → outPlannedC (sessionForC s) out ≡ outPlanned s out
+  pub plan : (out : List ℕ)
+      → let own = planned s out in
+      plannedC (sessionForC s) out
+      ≡ record { refusal = own .refusal; steps = own .steps; rounds = own .rounds; left = own .left; session = sessionForC (own .session) }
   -- mogtriz_run
-  pub run : (nodes : List ℕ) → ranC (sessionForC s) nodes
-      ≡ record {
-        refusal = ran s nodes .refusal;
-        steps = ran s nodes .steps;
-        rounds = ran s nodes .rounds;
-        left = ran s nodes .left;
-        session = sessionForC (ran s nodes .session);
-      }
-  pub run-nodes : (nodes : List ℕ) → nodesRanC (sessionForC s) nodes ≡ nodesRan s nodes
+  pub run : (nodes : List ℕ)
+      → let own = ran s nodes in
+      ranC (sessionForC s) nodes
+      ≡ record { refusal = own .refusal; steps = own .steps; rounds = own .rounds; left = own .left; session = sessionForC (own .session) }
   -- mogtriz_write
-  pub write : (nodes list out : List ℕ) → writtenC (sessionForC s) nodes list out
-      ≡ record {
-        refusal = written s nodes list out .refusal;
-        length = written s nodes list out .length;
-        session = sessionForC (written s nodes list out .session);
-      }
-  pub write-out : (nodes list out : List ℕ) → outWrittenC (sessionForC s) nodes list out ≡ outWritten s nodes list out
+  pub write : (nodes list out : List ℕ)
+      → let own = written s nodes list out in
+      writtenC (sessionForC s) nodes list out ≡ record { refusal = own .refusal; length = own .length; session = sessionForC (own .session) }
   -- mogtriz_read_out
-  pub read-out : (nodes object : List ℕ) → readOutC (sessionForC s) nodes object
-      ≡ record {
-        refusal = readOut s nodes object .refusal;
-        block = readOut s nodes object .block;
-        session = sessionForC (readOut s nodes object .session);
-      }
-  pub read-out-object : (nodes object : List ℕ) → objectOutC (sessionForC s) nodes object ≡ objectOut s nodes object
+  pub read-out : (nodes object : List ℕ)
+      → let own = readOut s nodes object in
+      readOutC (sessionForC s) nodes object ≡ record { refusal = own .refusal; block = own .block; session = sessionForC (own .session) }
 
 abbrev pub AgreeClaim : Type 0
 AgreeClaim = (s : Session) → Agree s
@@ -212,7 +195,7 @@ Demand3C = (family k L : ℕ) (list : List ℕ) → startedC (started family k L
 pub record OwnC (object : List ℕ) (s : MarkedSession) (nodes : List ℕ) (moves : List Move) : Type 0 where
   pub live : LiveAreOwn object (sessionOfC (stateAfterC s nodes moves .session)) (stateAfterC s nodes moves .nodes)
   pub out : (result : List ℕ) → readOutC (stateAfterC s nodes moves .session) (stateAfterC s nodes moves .nodes) result .refusal ≡ 0
-      → objectOutC (stateAfterC s nodes moves .session) (stateAfterC s nodes moves .nodes) result ≡ object
+      → objectOut (sessionOfC (stateAfterC s nodes moves .session)) (stateAfterC s nodes moves .nodes) result ≡ object
 
 -- a session with a byte above 1 is refused by every call, so the bytes may be any
 abbrev pub OwnCClaim : Type 0
@@ -227,7 +210,7 @@ startOfC way = startedC (startOf way) .session
 
 -- the box that mogtriz_write leaves at the start of its destination, by the length that it gives
 abbrev pub boxAwayC : Way → List ℕ
-boxAwayC way = take (writtenC (startOfC way) (nodesEncoded way) (way .list) (way .out) .length) (outWrittenC (startOfC way) (nodesEncoded way) (way .list) (way .out))
+boxAwayC way = take (writtenC (startOfC way) (nodesEncoded way) (way .list) (way .out) .length) (outWritten (sessionOfC (startOfC way)) (nodesEncoded way) (way .list) (way .out))
 
 -- mogtriz_encode, mogtriz_start, mogtriz_write and mogtriz_read are accepted
 pub record OnTheWayC (way : Way) : Type 0 where
@@ -253,12 +236,12 @@ pub record WholeWayC (way : Way) (moves : List Move) : Type 0 where
   -- after one more mogtriz_run, which is accepted, that is exactly where no data block's node is open
   pub runs : ranC (stateAtC way moves .session) (stateAtC way moves .nodes) .refusal ≡ 0
   pub back : (result : List ℕ) → length result ≡ way .k * way .len → (M : ℕ) → 1 ≤ M
-      → OutWhereOpenC (ranC (stateAtC way moves .session) (stateAtC way moves .nodes) .session) (nodesRanC (stateAtC way moves .session) (stateAtC way moves .nodes)) result
+      → OutWhereOpenC (ranC (stateAtC way moves .session) (stateAtC way moves .nodes) .session) (nodesRan (sessionOfC (stateAtC way moves .session)) (stateAtC way moves .nodes)) result
       (namesIn (boxAwayC way)) M
   -- and then it leaves the object
   pub again : (result : List ℕ)
-      → readOutC (ranC (stateAtC way moves .session) (stateAtC way moves .nodes) .session) (nodesRanC (stateAtC way moves .session) (stateAtC way moves .nodes)) result .refusal ≡ 0
-      → objectOutC (ranC (stateAtC way moves .session) (stateAtC way moves .nodes) .session) (nodesRanC (stateAtC way moves .session) (stateAtC way moves .nodes)) result ≡ way .object
+      → readOutC (ranC (stateAtC way moves .session) (stateAtC way moves .nodes) .session) (nodesRan (sessionOfC (stateAtC way moves .session)) (stateAtC way moves .nodes)) result .refusal ≡ 0
+      → objectOut (sessionOfC (ranC (stateAtC way moves .session) (stateAtC way moves .nodes) .session)) (nodesRan (sessionOfC (stateAtC way moves .session)) (stateAtC way moves .nodes)) result ≡ way .object
 
 -- for every family, k, L and object, every start and list that are accepted, every buffer, and every list of calls
 abbrev pub WholeWayCClaim : Type 0

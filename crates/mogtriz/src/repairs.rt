@@ -5,7 +5,10 @@ use crate::sessions::marked;
 use repair::Repairs;
 use repair::Session;
 ghost use mathlib.Core.Path.{_≡_};
-ghost use Rattle.mogtriz.specs.Repairs.{handedBack, repairsC, refusedRepairsC, steppedC, nodesSteppedC, plannedC, outPlannedC, ranC, nodesRanC};
+ghost use Rattle.repair.specs.Step.{nodesStepped};
+ghost use Rattle.repair.specs.Repairs.{outPlanned, nodesRan};
+ghost use Rattle.mogtriz.specs.Sessions.{sessionOfC};
+ghost use Rattle.mogtriz.specs.Repairs.{handedBack, repairsC, steppedC, plannedC, ranC};
 
 // C's mogtriz_stepped.
 #[repr(C)]
@@ -47,19 +50,6 @@ fn repairs_for_c(answer: Repairs, session: MarkedSession) -> RepairsAnswer
     }
 }
 
-// A plan or run of a session with a byte above 1.
-fn refused_for_marks(session: MarkedSession) -> RepairsAnswer
-    ensures { λ r. ⌜ r ≡ refusedRepairsC session 13 ⌝ }
-{
-    RepairsAnswer {
-        refusal: 13,
-        steps: 0,
-        rounds: 0,
-        left: 0,
-        session: session,
-    }
-}
-
 // One missing node repaired from two live ones.
 #[no_mangle]
 pub extern "C" fn mogtriz_step(
@@ -70,14 +60,8 @@ pub extern "C" fn mogtriz_step(
     second: usize,
 ) -> StepAnswer
     ensures { λ r. ⌜ r ≡ steppedC session (now (nodes .entry)) node first second ⌝ }
-    ensures { λ _. ⌜ now (nodes .exit) ≡ nodesSteppedC session (now (nodes .entry)) node first second ⌝ }
+    ensures { λ _. ⌜ now (nodes .exit) ≡ nodesStepped (sessionOfC session) (now (nodes .entry)) node first second ⌝ }
 {
-    if session.has_other_marks() {
-        return StepAnswer {
-            refusal: 13,
-            session: session,
-        };
-    }
     let stepped = session.session().step(nodes, node, first, second);
     let next = stepped.session;
     let given = handed_back(session, stepped.refusal, next);
@@ -91,11 +75,8 @@ pub extern "C" fn mogtriz_step(
 #[no_mangle]
 pub extern "C" fn mogtriz_plan(session: MarkedSession, out: &mut [u8]) -> RepairsAnswer
     ensures { λ r. ⌜ r ≡ plannedC session (now (out .entry)) ⌝ }
-    ensures { λ _. ⌜ now (out .exit) ≡ outPlannedC session (now (out .entry)) ⌝ }
+    ensures { λ _. ⌜ now (out .exit) ≡ outPlanned (sessionOfC session) (now (out .entry)) ⌝ }
 {
-    if session.has_other_marks() {
-        return refused_for_marks(session);
-    }
     let planned = session.session().plan(out);
     repairs_for_c(planned, session)
 }
@@ -104,11 +85,8 @@ pub extern "C" fn mogtriz_plan(session: MarkedSession, out: &mut [u8]) -> Repair
 #[no_mangle]
 pub extern "C" fn mogtriz_run(session: MarkedSession, nodes: &mut [u8]) -> RepairsAnswer
     ensures { λ r. ⌜ r ≡ ranC session (now (nodes .entry)) ⌝ }
-    ensures { λ _. ⌜ now (nodes .exit) ≡ nodesRanC session (now (nodes .entry)) ⌝ }
+    ensures { λ _. ⌜ now (nodes .exit) ≡ nodesRan (sessionOfC session) (now (nodes .entry)) ⌝ }
 {
-    if session.has_other_marks() {
-        return refused_for_marks(session);
-    }
     let ran = session.session().run(nodes);
     let next = ran.session;
     let given = handed_back(session, ran.refusal, next);

@@ -1,10 +1,13 @@
 // Sessions and boxes from C. A session's marks come as bytes, since another value than 0 or 1 in a `bool` is undefined: a
-// session with a byte above 1 is one that no start gives.
+// session with a byte above 1 is one that no start gives. Each call is the session's own, and write and read out hand the session
+// back as it came, byte for byte.
 use repair::Session;
 ghost use mathlib.Core.Path.{_≡_};
-ghost use Rattle.mogtriz.specs.Sessions.{byteOf, bytesOf, marksOf, someAbove1, sessionForC, sessionOfC, startedC, writtenC, outWrittenC, readOutC, objectOutC, partIn};
+ghost use mathlib.Core.List.{map};
+ghost use Rattle.mogtriz.specs.Sessions.{byteOf, markOf, someAbove1, sessionForC, sessionOfC, startedC, writtenC, readOutC, partIn};
 ghost use Rattle.repair.specs.Session.{started};
-ghost use Rattle.repair.specs.Boxed.{checkedBox, readBox, nodesRead};
+ghost use Rattle.repair.specs.Boxed.{checkedBox, readBox, nodesRead, outWritten};
+ghost use Rattle.repair.specs.ReadOut.{objectOut};
 
 // C's mogtriz_session.
 #[repr(C)]
@@ -58,7 +61,7 @@ fn byte_of(live: bool) -> u8
 
 // A byte for each mark: 1 live, 0 missing.
 fn bytes_of(marks: [bool; 256]) -> [u8; 256]
-    ensures { λ r. ⌜ r ≡ bytesOf marks ⌝ }
+    ensures { λ r. ⌜ r ≡ map byteOf marks ⌝ }
 {
     let mut bytes = [0u8; 256];
     let mut j: usize = 0;
@@ -71,7 +74,7 @@ fn bytes_of(marks: [bool; 256]) -> [u8; 256]
 
 // A mark for each byte: 1 live, any other missing.
 fn marks_of_bytes(bytes: [u8; 256]) -> [bool; 256]
-    ensures { λ r. ⌜ r ≡ marksOf bytes ⌝ }
+    ensures { λ r. ⌜ r ≡ map markOf bytes ⌝ }
 {
     let mut marks = [false; 256];
     let mut j: usize = 0;
@@ -97,11 +100,20 @@ fn some_above_1(bytes: [u8; 256]) -> bool
 }
 
 impl MarkedSession {
-    // The session that C's is, where every byte is 0 or 1.
+    // The session that C's is. No start gives one with a byte above 1: the session of zeros stands for it, which no start gives
+    // either, so that every call turns it away with 13.
     pub fn session(self) -> Session
         ensures { λ r. ⌜ r ≡ sessionOfC self ⌝ }
     {
         let bytes = self.live;
+        if some_above_1(bytes) {
+            return Session {
+                family: 0,
+                k: 0,
+                len: 0,
+                live: [false; 256],
+            };
+        }
         let live = marks_of_bytes(bytes);
         Session {
             family: self.family,
@@ -109,14 +121,6 @@ impl MarkedSession {
             len: self.len,
             live: live,
         }
-    }
-
-    // Whether a mark is neither 0 nor 1.
-    pub fn has_other_marks(self) -> bool
-        ensures { λ r. ⌜ r ≡ someAbove1 (self .live) ⌝ }
-    {
-        let bytes = self.live;
-        some_above_1(bytes)
     }
 }
 
@@ -202,15 +206,8 @@ pub extern "C" fn mogtriz_write(
     out: &mut [u8],
 ) -> WriteAnswer
     ensures { λ r. ⌜ r ≡ writtenC session (now (nodes .entry)) (now (list .entry)) (now (out .entry)) ⌝ }
-    ensures { λ _. ⌜ now (out .exit) ≡ outWrittenC session (now (nodes .entry)) (now (list .entry)) (now (out .entry)) ⌝ }
+    ensures { λ _. ⌜ now (out .exit) ≡ outWritten (sessionOfC session) (now (nodes .entry)) (now (list .entry)) (now (out .entry)) ⌝ }
 {
-    if session.has_other_marks() {
-        return WriteAnswer {
-            refusal: 13,
-            length: 0,
-            session: session,
-        };
-    }
     let answer = session.session().write(nodes, list, out);
     WriteAnswer {
         refusal: answer.refusal,
@@ -227,15 +224,8 @@ pub extern "C" fn mogtriz_read_out(
     object: &mut [u8],
 ) -> ReadOutAnswer
     ensures { λ r. ⌜ r ≡ readOutC session (now (nodes .entry)) (now (object .entry)) ⌝ }
-    ensures { λ _. ⌜ now (object .exit) ≡ objectOutC session (now (nodes .entry)) (now (object .entry)) ⌝ }
+    ensures { λ _. ⌜ now (object .exit) ≡ objectOut (sessionOfC session) (now (nodes .entry)) (now (object .entry)) ⌝ }
 {
-    if session.has_other_marks() {
-        return ReadOutAnswer {
-            refusal: 13,
-            block: 0,
-            session: session,
-        };
-    }
     let answer = session.session().read_out(nodes, object);
     ReadOutAnswer {
         refusal: answer.refusal,

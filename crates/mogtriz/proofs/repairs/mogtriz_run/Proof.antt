@@ -1,32 +1,16 @@
--- `mogtriz::repairs::mogtriz_run` meets its contract: a byte above 1 is refused before any other check, and else it is the session's own run.
+-- `mogtriz::repairs::mogtriz_run` meets its contract: it is the session's own run, with the session that C gets.
 -- Assumes nothing.
-use mathlib.Core.Path.{refl, sym, _∙_}
-use Rattle.mogtriz.specs.Repairs.{ranC, nodesRanC}
+use mathlib.Core.Path.{refl}
 use borrow.Author.Needs.{needs}
+use Rattle.mogtriz.specs.Repairs.{ranC}
 use Rattle.mogtriz.proofs.repairs.mogtriz_run.Statement.{statement}
 use Rattle.mogtriz.proofs.repairs.mogtriz_run.Tie as tie
 
 returns : tie.Need-returns
-unfolding ranC nodesRanC
-returns c = rw (sym (c .before .before .has-other-marks .ensures) ∙ c .before .if1 .taken, c .refused-for-marks .ensures) (refl, refl)
-
-returns-2 : tie.Need-returns-2
-unfolding ranC nodesRanC
-returns-2 c =
-    let e = c .before .before .before .before .before .before .before .before in
+unfolding ranC
+returns c =
     let w = c .before .before .before .before .before .run .ensures in
-    rw (sym (e .before .has-other-marks .ensures) ∙ e .if1 .left, c .repairs-for-c .ensures, c .before .handed-back .ensures, w .0, w .1, c .before .before .before .before .before .before .before .session .ensures) (refl, refl)
+    rw (c .repairs-for-c .ensures, c .before .handed-back .ensures, w .0, w .1, c .before .before .before .before .before .before .before .session .ensures) (refl, refl)
 
 pub mogtriz-run-spec : {M : Type 1} → statement M
-mogtriz-run-spec =
-    tie.close
-    (tie.spec
-    (λ c κs. tt)
-    (λ c κs. tt)
-    returns
-    (λ c κs. tt)
-    (λ c κs. tt)
-    (λ c κs. tt)
-    (λ c κs. tt)
-    (λ c. search needs)
-    returns-2)
+mogtriz-run-spec = tie.close (tie.spec (λ c κs. tt) (λ c κs. tt) (λ c κs. tt) (λ c κs. tt) (λ c. search needs) returns)

@@ -1,30 +1,16 @@
--- `mogtriz::repairs::mogtriz_step` meets its contract: a byte above 1 is refused before any other check, and else it is the session's own step.
+-- `mogtriz::repairs::mogtriz_step` meets its contract: it is the session's own step, with the session that C gets.
 -- Assumes nothing.
-use mathlib.Core.Path.{refl, sym, _∙_}
-use Rattle.mogtriz.specs.Repairs.{steppedC, nodesSteppedC}
+use mathlib.Core.Path.{refl}
 use borrow.Author.Needs.{needs}
+use Rattle.mogtriz.specs.Repairs.{steppedC}
 use Rattle.mogtriz.proofs.repairs.mogtriz_step.Statement.{statement}
 use Rattle.mogtriz.proofs.repairs.mogtriz_step.Tie as tie
 
 returns : tie.Need-returns
-unfolding steppedC nodesSteppedC
-returns c = rw (sym (c .before .has-other-marks .ensures) ∙ c .if1 .taken) (refl, refl)
-
-returns-2 : tie.Need-returns-2
-unfolding steppedC nodesSteppedC
-returns-2 c =
-    let e = c .before .before .before .before .before .before .before in
+unfolding steppedC
+returns c =
     let w = c .before .before .before .before .step .ensures in
-    rw (sym (e .before .has-other-marks .ensures) ∙ e .if1 .left, c .handed-back .ensures, w .0, w .1, c .before .before .before .before .before .before .session .ensures) (refl, refl)
+    rw (c .handed-back .ensures, w .0, w .1, c .before .before .before .before .before .before .session .ensures) (refl, refl)
 
 pub mogtriz-step-spec : {M : Type 1} → statement M
-mogtriz-step-spec =
-    tie.close
-    (tie.spec
-    (λ c κs. tt)
-    returns
-    (λ c κs. tt)
-    (λ c κs. tt)
-    (λ c κs. tt)
-    (λ c. search needs)
-    returns-2)
+mogtriz-step-spec = tie.close (tie.spec (λ c κs. tt) (λ c κs. tt) (λ c κs. tt) (λ c. search needs) returns)

@@ -1,29 +1,16 @@
--- `mogtriz::sessions::mogtriz_write` meets its contract: a byte above 1 is refused before any other check, and else it is the session's own write.
+-- `mogtriz::sessions::mogtriz_write` meets its contract: it is the session's own write, with the session as handed in.
 -- Assumes nothing.
-use mathlib.Core.Path.{refl, sym, _∙_}
-use Rattle.mogtriz.specs.Sessions.{writtenC, outWrittenC}
+use mathlib.Core.Path.{refl}
 use borrow.Author.Needs.{needs}
+use Rattle.mogtriz.specs.Sessions.{writtenC}
 use Rattle.mogtriz.proofs.sessions.mogtriz_write.Statement.{statement}
 use Rattle.mogtriz.proofs.sessions.mogtriz_write.Tie as tie
 
 returns : tie.Need-returns
-unfolding writtenC outWrittenC
-returns c = rw (sym (c .before .has-other-marks .ensures) ∙ c .if1 .taken) (refl, refl)
-
-returns-2 : tie.Need-returns-2
-unfolding writtenC outWrittenC
-returns-2 c =
-    let e = c .before .before .before .before .before in
+unfolding writtenC
+returns c =
     let w = c .before .before .write .ensures in
-    rw (sym (e .before .has-other-marks .ensures) ∙ e .if1 .left, w .0, w .1, c .before .before .before .before .session .ensures) (refl, refl)
+    rw (w .0, w .1, c .before .before .before .before .session .ensures) (refl, refl)
 
 pub mogtriz-write-spec : {M : Type 1} → statement M
-mogtriz-write-spec =
-    tie.close
-    (tie.spec
-    (λ c κs. tt)
-    returns
-    (λ c κs. tt)
-    (λ c κs. tt)
-    (λ c. search needs)
-    returns-2)
+mogtriz-write-spec = tie.close (tie.spec (λ c κs. tt) (λ c κs. tt) (λ c. search needs) returns)
