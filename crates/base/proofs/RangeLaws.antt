@@ -1,14 +1,16 @@
 -- A walk over the numbers from j on: what is still to be seen of them, and what was seen, one number more.
 -- Assumes nothing.
-use mathlib.Core.Path.{_≡_, refl, ap, _∙_}
+use mathlib.Core.Path.{_≡_, refl, sym, ap, _∙_}
 use mathlib.Core.Bool.{Bool, true, false, cond, not, _||_}
 use mathlib.Core.List.{List, [], _∷_, _++_, append-nil}
+use mathlib.Core.Logic.{_⊎_, inl, inr}
 use Prim.Native.Nat.{ℕ, zero, suc, _+_, _-_, _≤_, _<_}
-use native.Mathlib.Nat.{add-zero, add-suc, suc-add}
+use native.Mathlib.Nat.{add-zero, add-suc, suc-add, eq-zero-or-pos}
 use native.Mathlib.Numerals.{add-one}
 use native.Mathlib.Omega.{arith}
 use lib.ListN.{length}
-use Rattle.base.specs.Ranges.{someFrom, thoseFrom, countFrom}
+use Rattle.base.specs.Ranges.{firstFrom, someFrom, thoseFrom, countFrom}
+use Rattle.base.proofs.First.{first-zero}
 
 module _ (test : ℕ → Bool) where
   -- ---- whether one passes, of the numbers from j on that are below an end
@@ -48,6 +50,41 @@ module _ (test : ℕ → Bool) where
 
   pub those-same : (j : ℕ) → test (j + 1) ≡ false → thoseFrom test 1 (j + 1) ≡ thoseFrom test 1 j
   those-same j h = those-next j ∙ simp (h, append-nil)
+
+  -- ---- those that pass, from the first of them on
+
+  pub those-none : (j m : ℕ) → 1 ≤ j → firstFrom test j m ≡ 0 → thoseFrom test j m ≡ []
+  unfolding firstFrom thoseFrom
+  those-none j zero h e = refl
+  those-none j (suc m) h e = go (test j) e (λ g. those-none (suc j) m (omega arith) g)
+    where
+      go : (b : Bool) → cond b j (firstFrom test (suc j) m) ≡ 0 → (firstFrom test (suc j) m ≡ 0 → thoseFrom test (suc j) m ≡ [])
+          → cond b (j ∷ thoseFrom test (suc j) m) (thoseFrom test (suc j) m) ≡ []
+      go true g later = absurd (omega arith)
+      go false g later = later g
+
+  pub those-first : (j m i : ℕ) → firstFrom test j m ≡ i → 1 ≤ i → thoseFrom test j m ≡ i ∷ thoseFrom test (suc i) (j + m - suc i)
+  unfolding firstFrom thoseFrom
+  those-first j zero i e h = absurd (omega arith)
+  those-first j (suc m) i e h = go (test j) e (λ g. those-first (suc j) m i g h)
+    where
+      go : (b : Bool) → cond b j (firstFrom test (suc j) m) ≡ i
+          → (firstFrom test (suc j) m ≡ i → thoseFrom test (suc j) m ≡ i ∷ thoseFrom test (suc i) (suc j + m - suc i))
+          → cond b (j ∷ thoseFrom test (suc j) m) (thoseFrom test (suc j) m) ≡ i ∷ thoseFrom test (suc i) (j + suc m - suc i)
+      go true g later =
+          let e : j + suc m - suc j ≡ m = omega arith in
+          rw (← g, e)
+      go false g later =
+          let e : j + suc m - suc i ≡ suc j + m - suc i = omega arith in
+          rw e (later g)
+
+  -- where there are none, none passes
+  pub none-those : (j m : ℕ) → 1 ≤ j → thoseFrom test j m ≡ [] → (i : ℕ) → j ≤ i → i < j + m → test i ≡ false
+  none-those j m h e = first-zero test j m h (go (eq-zero-or-pos (firstFrom test j m)))
+    where
+      go : (firstFrom test j m ≡ 0) ⊎ (0 < firstFrom test j m) → firstFrom test j m ≡ 0
+      go (inl g) = g
+      go (inr g) = absurd (omega (arith, ap length (sym e ∙ those-first j m (firstFrom test j m) refl g)))
 
   -- ---- how many
 

@@ -20,7 +20,7 @@ use Rattle.encoding.specs.Matrix.{nodeBlock, nodesBuffer}
 use Rattle.encoding.specs.Encode.{encodeChecks, encodeAnswer, encoded}
 use Rattle.lists.specs.Lists.{someOutside, rises, placeIn, setLive, someMissing, liveOutside}
 use Rattle.planning.specs.Pairs.{largerNode, smallerNode}
-use Rattle.planning.specs.Plan.{isRepaired, stepsFrom, roundsFrom, planOf, marksAfter, stepBytes, lastRound, nodesLeft}
+use Rattle.planning.specs.Plan.{isRepaired, roundsFrom, planOf, marksAfter, stepBytes, lastRound, nodesLeft}
 use Rattle.planning.specs.Made.{stepsIn}
 use Rattle.planning.proofs.RoundLaws.{length-bytes}
 use Rattle.planning.proofs.CarryLaws.{steps-back}
@@ -142,7 +142,7 @@ _&_ : {A B : Type 0} → A → B → A × B
 a & b = (a, b)
 
 computed : Every Computed table
-unfolding started refusalLine encodeChecks parameterChecks firstMet nodesBuffer joined nodeBlock columnOf nodeCount xorBytes startChecks checkedBox boxChecks someOutside rises setLive noStart liveOutside someFrom planOf roundsFrom stepsFrom isRepaired smallerNode largerNode firstFrom areRelated smallerAt largerAt stepBytes lastRound nodesLeft countFrom thoseFrom someMissing stepsIn placeIn listFrom readBox nodesRead readChecks withBodies withBlock blockOf bodyChecks bodyOf writeChecks nodesChecks written outWritten boxOf bodiesOf stepChecks stepped nodesStepped listingOf answerOf listingIn firstLine stepLines stepLine lastLine field decimal digitCount
+unfolding started refusalLine encodeChecks parameterChecks firstMet nodesBuffer joined nodeBlock columnOf nodeCount xorBytes startChecks checkedBox boxChecks someOutside rises setLive noStart liveOutside someFrom planOf roundsFrom isRepaired smallerNode largerNode firstFrom areRelated smallerAt largerAt stepBytes lastRound nodesLeft countFrom thoseFrom someMissing stepsIn placeIn listFrom readBox nodesRead readChecks withBodies withBlock blockOf bodyChecks bodyOf writeChecks nodesChecks written outWritten boxOf bodiesOf stepChecks stepped nodesStepped listingOf answerOf listingIn firstLine stepLines stepLine lastLine field decimal digitCount
 computed =
     (refl, refl)
     & (refl, λ byte. (refl, refl))

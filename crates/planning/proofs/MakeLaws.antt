@@ -2,7 +2,7 @@
 -- Assumes nothing.
 use mathlib.Core.Path.{_≡_, refl, sym, ap, _∙_}
 use mathlib.Core.Bool.{Bool, true, false, cond, not}
-use mathlib.Core.List.{List, [], _∷_, _++_}
+use mathlib.Core.List.{List, [], _∷_, _++_, map}
 use Prim.Native.Nat.{ℕ, zero, suc, _+_, _-_, _≤_, _<_}
 use native.Mathlib.Decide.{ℕ-discrete}
 use native.Mathlib.Omega.{arith}
@@ -10,7 +10,7 @@ use borrow.Author.Tests.{ltb-true, not-true}
 use lib.Dec.{ltb}
 use lib.ListN.{length, set, length-set}
 use lib.Seq.{getD-set-same, getD-set-other}
-use Rattle.base.specs.Ranges.{countFrom}
+use Rattle.base.specs.Ranges.{thoseFrom, countFrom}
 use Rattle.base.proofs.RangeLaws.{others-count}
 use Rattle.base.proofs.Tests.{and-left, and-right}
 use Rattle.families.specs.declared.Family.{Family}
@@ -21,7 +21,7 @@ use Rattle.lists.proofs.Laws.{length-setLive}
 use Rattle.lists.proofs.MarkLaws.{set-keeps}
 use Rattle.planning.specs.Claims.{CanMake, CanMakeAll}
 use Rattle.planning.specs.Pairs.{smallerNode}
-use Rattle.planning.specs.Plan.{Step, isRepaired, stepOf, stepsFrom, roundSteps, repairedNodes, marksAfter, nodesLeft}
+use Rattle.planning.specs.Plan.{Step, isRepaired, stepOf, roundSteps, repairedNodes, marksAfter, nodesLeft}
 use Rattle.planning.proofs.PairLaws.{PairOf, pair-of}
 
 -- ---- the marks after steps
@@ -75,16 +75,16 @@ module _ (f : Family) (k : ℕ) (range : KInRange f k) (marks : List Bool) (r : 
         larger-live = u .kept _ (p .larger-live);
       }
 
-  steps-make : (j m : ℕ) → 1 ≤ j → j + m ≤ suc (nodeCount f k) → (now : List Bool) → Upto j now → CanMakeAll f k now (stepsFrom f k marks r j m)
-  unfolding stepsFrom
+  steps-make : (j m : ℕ) → 1 ≤ j → j + m ≤ suc (nodeCount f k) → (now : List Bool) → Upto j now → CanMakeAll f k now (map (stepOf f k marks r) (thoseFrom (isRepaired f k marks) j m))
+  unfolding thoseFrom
   steps-make j zero l h now u = tt
   steps-make j (suc m) l h now u = go (isRepaired f k marks j) refl (λ after w. steps-make (suc j) m (omega arith) (omega arith) after w)
     where
-      later : List Step
-      later = stepsFrom f k marks r (suc j) m
+      later : List ℕ
+      later = thoseFrom (isRepaired f k marks) (suc j) m
 
-      go : (b : Bool) → isRepaired f k marks j ≡ b → ((after : List Bool) → Upto (suc j) after → CanMakeAll f k after later)
-          → CanMakeAll f k now (cond b (stepOf f k marks r j ∷ later) later)
+      go : (b : Bool) → isRepaired f k marks j ≡ b → ((after : List Bool) → Upto (suc j) after → CanMakeAll f k after (map (stepOf f k marks r) later))
+          → CanMakeAll f k now (map (stepOf f k marks r) (cond b (j ∷ later) later))
       go true e make =
           (step-makes j (record { first = l; last = omega arith }) now u e, make (set now j true) (upto-set j now u))
       go false e make = make now (upto-next j now u)

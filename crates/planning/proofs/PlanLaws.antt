@@ -2,14 +2,15 @@
 -- round leaves fewer nodes missing.
 -- Assumes nothing.
 use mathlib.Core.Path.{_≡_, refl, sym, ap, _∙_}
-use mathlib.Core.Bool.{Bool, true, false, cond, _&&_}
-use mathlib.Core.List.{List, [], _∷_, _++_}
+use mathlib.Core.Bool.{Bool, true, _&&_}
+use mathlib.Core.List.{List, [], _∷_, _++_, map-eq-nil-iff}
 use mathlib.Core.Logic.{_⊎_, inl, inr}
 use Prim.Native.Nat.{ℕ, zero, suc, _+_, _-_, _≤_, _<_}
 use native.Mathlib.Decide.{decLt}
 use native.Mathlib.Omega.{arith}
 use borrow.Author.Tests.{lt-ltb}
 use lib.ListN.{length}
+use Rattle.base.proofs.RangeLaws.{none-those}
 use Rattle.base.proofs.Tests.{and-both, not-both}
 use Rattle.families.specs.declared.Family.{Family}
 use Rattle.families.specs.Families.{KInRange, IsNode, nodeCount, areRelated}
@@ -18,7 +19,7 @@ use Rattle.families.proofs.Laws.{related-differ, related-swap}
 use Rattle.lists.specs.Lists.{isLive, setLive}
 use Rattle.planning.specs.Claims.{CanMakeAll}
 use Rattle.planning.specs.Pairs.{smallerNode, largerNode, NoPairLeft}
-use Rattle.planning.specs.Plan.{Step, isRepaired, stepOf, stepsFrom, roundSteps, marksAfter, thenRounds, roundsFrom, nodesLeft}
+use Rattle.planning.specs.Plan.{Step, isRepaired, stepOf, roundSteps, marksAfter, thenRounds, roundsFrom, nodesLeft}
 use Rattle.planning.proofs.MakeLaws.{length-marksAfter, can-make-append, round-makes, make-counts}
 use Rattle.planning.proofs.PairLaws.{hasLarger, pair-repairs}
 use Rattle.planning.proofs.RoundLaws.{marks-append}
@@ -35,26 +36,11 @@ module _ (f : Family) (k : ℕ) (marks : List Bool) where
       first-least (λ x. isLive marks x && hasLarger f k marks j x) 1 (nodeCount f k) a (omega arith) (na .first) (omega (arith, na .last))
       (and-both (isLive marks a) (hasLarger f k marks j a) va (lt-ltb 0 (largerNode f k marks j a) larger)) .0
 
-  -- a node that is repaired has a step
-  steps-hit : (r j m i : ℕ) → stepsFrom f k marks r j m ≡ [] → j ≤ i → i < j + m → isRepaired f k marks i ≡ true → ⊥
-  unfolding stepsFrom
-  steps-hit r j zero i e l h t = omega arith
-  steps-hit r j (suc m) i e l h t = go (isRepaired f k marks j) refl e (λ q g. steps-hit r (suc j) m i q g (omega arith) t)
-    where
-      later : List Step
-      later = stepsFrom f k marks r (suc j) m
-
-      go : (b : Bool) → isRepaired f k marks j ≡ b → cond b (stepOf f k marks r j ∷ later) later ≡ [] → (later ≡ [] → suc j ≤ i → ⊥) → ⊥
-      go true g q rest = omega (arith, ap length q)
-      go false g q rest =
-          let ne : j ≡ i → ⊥ = λ x. not-both (isRepaired f k marks i) t (ap (isRepaired f k marks) (sym x) ∙ g) in
-          rest q (omega arith)
-
   pub round-quiet : KInRange f k → (r : ℕ) → roundSteps f k marks r ≡ [] → NoPairLeft f k (isLive marks)
   round-quiet range r e j a b nj na nb vj va vb h = go (decLt a b) (decLt b a)
     where
       hit : 1 ≤ smallerNode f k marks j → ⊥
-      hit l = steps-hit r 1 (nodeCount f k) j e (nj .first) (omega (arith, nj .last)) (pair-repairs f k marks j vj l)
+      hit l = not-both (isRepaired f k marks j) (pair-repairs f k marks j vj l) (none-those (isRepaired f k marks) 1 (nodeCount f k) (omega arith) (map-eq-nil-iff (stepOf f k marks r) .0 e) j (nj .first) (omega (arith, nj .last)))
 
       go : Dec (a < b) → Dec (b < a) → ⊥
       go (yes l) d = hit (smaller-hit j a b na nb l va vb h)

@@ -1,20 +1,21 @@
 -- A plan made round by round: what has been put into the list and marked, and that there is room for every step.
 -- Assumes nothing.
 use mathlib.Core.Path.{_≡_, refl, sym, ap, _∙_, subst}
-use mathlib.Core.Bool.{Bool, true, false, cond}
-use mathlib.Core.List.{List, [], _∷_, _++_, append-assoc, append-nil}
-use Prim.Native.Nat.{ℕ, zero, suc, _+_, _-_, _*_, _≤_}
+use mathlib.Core.Bool.{Bool}
+use mathlib.Core.List.{List, [], _∷_, _++_, append-assoc, append-nil, map}
+use Prim.Native.Nat.{ℕ, _+_, _-_, _*_, _≤_}
 use native.Mathlib.Nat.{sub-zero, zero-add}
 use native.Mathlib.Numerals.{add-one}
 use native.Mathlib.Omega.{arith}
 use borrow.Rule.Slice.PartMut.{putMid, same-len-mid}
 use lib.ListN.{length, drop, length-append, take-append-drop}
+use Rattle.base.specs.Ranges.{thoseFrom}
 use Rattle.blocks.proofs.PartLaws.{length-mid, put-beside}
 use Rattle.families.specs.declared.Family.{Family}
 use Rattle.families.specs.Families.{KInRange, nodeCount}
 use Rattle.lists.specs.Lists.{liveNodes, setLive}
 use Rattle.planning.specs.Claims.{CanMakeAll}
-use Rattle.planning.specs.Plan.{Step, isRepaired, stepOf, stepsFrom, roundSteps, marksAfter, roundsFrom, planOf, stepBytes, lastRound, nodesLeft}
+use Rattle.planning.specs.Plan.{Step, isRepaired, stepOf, roundSteps, marksAfter, roundsFrom, planOf, stepBytes, lastRound, nodesLeft}
 use Rattle.planning.specs.Inner.{plannedOf}
 use Rattle.planning.proofs.MakeLaws.{length-marksAfter, can-make-append, round-makes, make-counts, left-few, left-is}
 use Rattle.planning.proofs.PlanLaws.{rounds-end, rounds-more}
@@ -29,16 +30,14 @@ last-append (y ∷ []) x t = refl
 last-append (y ∷ z ∷ s) x t = last-append (z ∷ s) x t
 
 -- every step of round r has this round
-last-from : (f : Family) (k : ℕ) (marks : List Bool) (r j m : ℕ) → 1 ≤ length (stepsFrom f k marks r j m) → lastRound (stepsFrom f k marks r j m) ≡ r
-unfolding stepsFrom lastRound
-last-from f k marks r j zero h = absurd (omega arith)
-last-from f k marks r j (suc m) h = go (isRepaired f k marks j) (stepsFrom f k marks r (suc j) m) (last-from f k marks r (suc j) m) h
+last-round : (f : Family) (k : ℕ) (marks : List Bool) (r : ℕ) → 1 ≤ length (roundSteps f k marks r) → lastRound (roundSteps f k marks r) ≡ r
+unfolding lastRound
+last-round f k marks r = go (thoseFrom (isRepaired f k marks) 1 (nodeCount f k))
   where
-    go : (b : Bool) (later : List Step) → (1 ≤ length later → lastRound later ≡ r) → 1 ≤ length (cond b (stepOf f k marks r j ∷ later) later)
-        → lastRound (cond b (stepOf f k marks r j ∷ later) later) ≡ r
-    go true [] e l = refl
-    go true (x ∷ later) e l = e (omega arith)
-    go false later e l = e l
+    go : (list : List ℕ) → 1 ≤ length (map (stepOf f k marks r) list) → lastRound (map (stepOf f k marks r) list) ≡ r
+    go [] h = absurd (omega arith)
+    go (j ∷ []) h = refl
+    go (j ∷ i ∷ list) h = go (i ∷ list) (omega arith)
 
 last-more : (s t : List Step) (r : ℕ) → 1 ≤ length t → lastRound t ≡ r → lastRound (s ++ t) ≡ r
 last-more s [] r h e = absurd (omega arith)
@@ -116,7 +115,7 @@ module _ {f : Family} {k : ℕ} {start : List Bool} {before out : List ℕ} {mar
         split = w .split ∙ rw (rounds-more f k marks (rounds + 1) (nodeCount f k - rounds) h (omega (arith, w .fewer)), left, add-one (rounds + 1), append-assoc);
         marked = rw (marks-append start (w .done) round, ← w .marked);
         count = omega (arith, w .count);
-        last = sym (last-more (w .done) round (rounds + 1) h (last-from f k marks (rounds + 1) 1 (nodeCount f k) h));
+        last = sym (last-more (w .done) round (rounds + 1) h (last-round f k marks (rounds + 1) h));
         fewer = omega (arith, w .fewer);
         kept = same-len-mid (4 * steps) (4 * length round) out (stepBytes round) (length-bytes round ∙ sym (length-mid out (4 * steps) (4 * length round) round-fits)) ∙ w .kept;
         bytes =

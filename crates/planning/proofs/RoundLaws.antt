@@ -3,7 +3,7 @@
 use mathlib.Core.Path.{_≡_, refl, sym, ap, _∙_}
 use mathlib.Core.Bool.{Bool, true, false, cond, not}
 use mathlib.Core.Logic.{_⊎_, inl, inr}
-use mathlib.Core.List.{List, [], _∷_, _++_, append-assoc, append-nil, map-append}
+use mathlib.Core.List.{List, [], _∷_, _++_, append-assoc, append-nil, map, map-append}
 use Prim.Native.Nat.{ℕ, zero, suc, _+_, _-_, _*_, _≤_, _<_}
 use native.Mathlib.Nat.{sub-zero, eq-zero-or-pos}
 use native.Mathlib.Omega.{arith}
@@ -11,7 +11,8 @@ use borrow.Author.Tests.{ltb-true, ne-eqb}
 use borrow.Rule.Slice.PartMut.{putMid, same-len-mid}
 use lib.Dec.{ltb}
 use lib.ListN.{length, set, length-append, take-append-drop}
-use Rattle.base.specs.Ranges.{firstFrom, thoseFrom}
+use Rattle.base.specs.Ranges.{thoseFrom}
+use Rattle.base.proofs.RangeLaws.{those-none, those-first}
 use Rattle.base.proofs.Tests.{and-right}
 use Rattle.blocks.proofs.PartLaws.{length-mid, put-beside}
 use Rattle.families.specs.declared.Family.{Family}
@@ -21,7 +22,7 @@ use Rattle.lists.specs.Lists.{isLive, setLive}
 use Rattle.lists.proofs.Laws.{live-few}
 use Rattle.lists.proofs.MarkLaws.{live-append}
 use Rattle.planning.specs.Pairs.{smallerNode, largerNode}
-use Rattle.planning.specs.Plan.{Step, isRepaired, stepOf, stepsFrom, roundSteps, repairedNodes, marksAfter, stepBytes}
+use Rattle.planning.specs.Plan.{Step, isRepaired, stepOf, roundSteps, repairedNodes, marksAfter, stepBytes}
 use Rattle.planning.specs.Inner.{nextNode, repairOf}
 use Rattle.planning.specs.declared.Repair.{Repair}
 use Rattle.planning.proofs.PairLaws.{pair-of, live-kept}
@@ -43,52 +44,28 @@ marks-append marks s t = ap (setLive marks) (map-append (λ (step : Step). step 
 
 -- ---- a round where every node is live
 
-pub all-live : (f : Family) (k : ℕ) (marks : List Bool) (r j m : ℕ) → m ≤ length (thoseFrom (isLive marks) j m) → stepsFrom f k marks r j m ≡ []
-unfolding stepsFrom thoseFrom
-all-live f k marks r j zero h = refl
-all-live f k marks r j (suc m) h = go (isLive marks j) refl h (λ g. all-live f k marks r (suc j) m g)
+pub all-live : (f : Family) (k : ℕ) (marks : List Bool) (j m : ℕ) → m ≤ length (thoseFrom (isLive marks) j m) → thoseFrom (isRepaired f k marks) j m ≡ []
+unfolding thoseFrom
+all-live f k marks j zero h = refl
+all-live f k marks j (suc m) h = go (isLive marks j) refl h (λ g. all-live f k marks (suc j) m g)
   where
     rest : List ℕ
     rest = thoseFrom (isLive marks) (suc j) m
 
-    go : (b : Bool) → isLive marks j ≡ b → suc m ≤ length (cond b (j ∷ rest) rest) → (m ≤ length rest → stepsFrom f k marks r (suc j) m ≡ []) → stepsFrom f k marks r j (suc m) ≡ []
+    go : (b : Bool) → isLive marks j ≡ b → suc m ≤ length (cond b (j ∷ rest) rest) → (m ≤ length rest → thoseFrom (isRepaired f k marks) (suc j) m ≡ []) → thoseFrom (isRepaired f k marks) j (suc m) ≡ []
     go true e g later = rw (live-kept f k marks j e) (later (omega arith))
     go false e g later = absurd (omega (arith, live-few marks (suc j) m))
 
 -- ---- the next repair
 
 module _ (f : Family) (k : ℕ) (marks : List Bool) (r : ℕ) where
-  abbrev test : ℕ → Bool
-  test = isRepaired f k marks
-
-  steps-none : (j m : ℕ) → 1 ≤ j → firstFrom test j m ≡ 0 → stepsFrom f k marks r j m ≡ []
-  unfolding stepsFrom firstFrom
-  steps-none j zero h e = refl
-  steps-none j (suc m) h e = go (test j) e (λ g. steps-none (suc j) m (omega arith) g)
-    where
-      go : (b : Bool) → cond b j (firstFrom test (suc j) m) ≡ 0 → (firstFrom test (suc j) m ≡ 0 → stepsFrom f k marks r (suc j) m ≡ [])
-          → cond b (stepOf f k marks r j ∷ stepsFrom f k marks r (suc j) m) (stepsFrom f k marks r (suc j) m) ≡ []
-      go true g later = absurd (omega arith)
-      go false g later = later g
-
-  steps-some : (j m i : ℕ) → firstFrom test j m ≡ i → 1 ≤ i → stepsFrom f k marks r j m ≡ stepOf f k marks r i ∷ stepsFrom f k marks r (suc i) (j + m - suc i)
-  unfolding stepsFrom firstFrom
-  steps-some j zero i e h = absurd (omega arith)
-  steps-some j (suc m) i e h = go (test j) e (λ g. steps-some (suc j) m i g h)
-    where
-      go : (b : Bool) → cond b j (firstFrom test (suc j) m) ≡ i
-          → (firstFrom test (suc j) m ≡ i → stepsFrom f k marks r (suc j) m ≡ stepOf f k marks r i ∷ stepsFrom f k marks r (suc i) (suc j + m - suc i))
-          → cond b (stepOf f k marks r j ∷ stepsFrom f k marks r (suc j) m) (stepsFrom f k marks r (suc j) m) ≡ stepOf f k marks r i ∷ stepsFrom f k marks r (suc i) (j + suc m - suc i)
-      go true g later =
-          let e : j + suc m - suc j ≡ m = omega arith in
-          rw (← g, e)
-      go false g later =
-          let e : j + suc m - suc i ≡ suc j + m - suc i = omega arith in
-          rw e (later g)
+  -- the nodes above a node that the round repairs
+  abbrev above : ℕ → List ℕ
+  above node = thoseFrom (isRepaired f k marks) (suc node) (nodeCount f k - node)
 
   -- the steps of the round above a node
   abbrev pub stepsAbove : ℕ → List Step
-  stepsAbove node = stepsFrom f k marks r (suc node) (nodeCount f k - node)
+  stepsAbove node = map (stepOf f k marks r) (above node)
 
   -- a repair as a step of the round
   abbrev pub asStep : Repair → Step
@@ -108,7 +85,7 @@ module _ (f : Family) (k : ℕ) (marks : List Bool) (r : ℕ) where
 
     pub next-none : x .node ≡ 0 → stepsAbove node ≡ []
     unfolding repairOf
-    next-none z = steps-none (suc node) (nodeCount f k - node) (omega arith) (go (eq-zero-or-pos j))
+    next-none z = rw (those-none (isRepaired f k marks) (suc node) (nodeCount f k - node) (omega arith) (go (eq-zero-or-pos j)))
       where
         go : (j ≡ 0) ⊎ (0 < j) → j ≡ 0
         go (inl g) = g
@@ -124,7 +101,7 @@ module _ (f : Family) (k : ℕ) (marks : List Bool) (r : ℕ) where
         go (inl g) = absurd (ne (ap (λ (y : Repair). y .node) e ∙ rw g))
         go (inr g) =
             let is : x ≡ record { node = j; smaller = smallerNode f k marks j; larger = largerNode f k marks j (smallerNode f k marks j) } = e ∙ simp (ne-eqb j 0 (λ y. omega arith)) in
-            let w = found test (suc node) (nodeCount f k - node) g in
+            let w = found (isRepaired f k marks) (suc node) (nodeCount f k - node) g in
             let p = pair-of f k range marks j (ltb-true 0 (smallerNode f k marks j) (and-right (not (isLive marks j)) (ltb 0 (smallerNode f k marks j)) (w .passes))) in
             let t : suc node + (nodeCount f k - node) - suc j ≡ nodeCount f k - j = omega (arith, w .from, w .below) in
             rw is
@@ -133,7 +110,7 @@ module _ (f : Family) (k : ℕ) (marks : List Bool) (r : ℕ) where
               last = omega (arith, w .from, w .below);
               smaller-last = p .smaller .last;
               larger-last = p .larger .last;
-              steps = steps-some (suc node) (nodeCount f k - node) j refl g ∙ rw t;
+              steps = rw (those-first (isRepaired f k marks) (suc node) (nodeCount f k - node) j refl g, t);
             })
 
 -- ---- a round, put into a list of bytes and marked

@@ -1,9 +1,9 @@
 -- The plan (document 01, "Plan"): rounds from 1, the steps of a round, and what a plan comes to.
-use mathlib.Core.Bool.{Bool, cond, not, _&&_}
+use mathlib.Core.Bool.{Bool, not, _&&_}
 use mathlib.Core.List.{List, [], _∷_, _++_, map}
 use Prim.Native.Nat.{ℕ, zero, suc}
 use lib.Dec.{ltb}
-use Rattle.base.specs.Ranges.{countFrom}
+use Rattle.base.specs.Ranges.{thoseFrom, countFrom}
 use Rattle.families.specs.declared.Family.{Family}
 use Rattle.families.specs.Families.{nodeCount}
 use Rattle.lists.specs.Lists.{isLive, setLive}
@@ -25,15 +25,9 @@ abbrev pub stepOf : Family → ℕ → List Bool → ℕ → ℕ → Step
 stepOf f k marks r j =
     record { round = r; node = j; smaller = smallerNode f k marks j; larger = largerNode f k marks j (smallerNode f k marks j) }
 
--- the steps of round r at the nodes j, j + 1, .., of which there are m, rising by node
-unfoldable pub stepsFrom : Family → ℕ → List Bool → ℕ → ℕ → ℕ → List Step
-stepsFrom f k marks r j zero = []
-stepsFrom f k marks r j (suc m) =
-    let later = stepsFrom f k marks r (suc j) m in cond (isRepaired f k marks j) (stepOf f k marks r j ∷ later) later
-
--- the steps of round r, from the marks when it begins
+-- the steps of round r, from the marks when it begins: a step for each node that it repairs, rising
 abbrev pub roundSteps : Family → ℕ → List Bool → ℕ → List Step
-roundSteps f k marks r = stepsFrom f k marks r 1 (nodeCount f k)
+roundSteps f k marks r = map (stepOf f k marks r) (thoseFrom (isRepaired f k marks) 1 (nodeCount f k))
 
 -- the nodes that steps repair
 abbrev pub repairedNodes : List Step → List ℕ
