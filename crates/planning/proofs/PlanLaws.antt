@@ -10,6 +10,7 @@ use native.Mathlib.Decide.{decLt}
 use native.Mathlib.Omega.{arith}
 use borrow.Author.Tests.{lt-ltb}
 use lib.ListN.{length}
+use Rattle.base.specs.Ranges.{thoseFrom}
 use Rattle.base.proofs.RangeLaws.{none-those}
 use Rattle.base.proofs.Tests.{and-both, not-both}
 use Rattle.families.specs.declared.Family.{Family}
@@ -19,7 +20,7 @@ use Rattle.families.proofs.Laws.{related-differ, related-swap}
 use Rattle.lists.specs.Lists.{isLive, setLive}
 use Rattle.planning.specs.Claims.{CanMakeAll}
 use Rattle.planning.specs.Pairs.{smallerNode, largerNode, NoPairLeft}
-use Rattle.planning.specs.Plan.{Step, isRepaired, stepOf, roundSteps, marksAfter, thenRounds, roundsFrom, nodesLeft}
+use Rattle.planning.specs.Plan.{Step, isRepaired, stepOf, roundSteps, marksAfter, roundsFrom, nodesLeft}
 use Rattle.planning.proofs.MakeLaws.{length-marksAfter, can-make-append, round-makes, make-counts}
 use Rattle.planning.proofs.PairLaws.{hasLarger, pair-repairs}
 use Rattle.planning.proofs.RoundLaws.{marks-append}
@@ -36,11 +37,15 @@ module _ (f : Family) (k : ℕ) (marks : List Bool) where
       first-least (λ x. isLive marks x && hasLarger f k marks j x) 1 (nodeCount f k) a (omega arith) (na .first) (omega (arith, na .last))
       (and-both (isLive marks a) (hasLarger f k marks j a) va (lt-ltb 0 (largerNode f k marks j a) larger)) .0
 
+  -- a round without steps repairs no node
+  none-repaired : (r : ℕ) → roundSteps f k marks r ≡ [] → thoseFrom (isRepaired f k marks) 1 (nodeCount f k) ≡ []
+  none-repaired r e = map-eq-nil-iff (stepOf f k marks r) .0 e
+
   pub round-quiet : KInRange f k → (r : ℕ) → roundSteps f k marks r ≡ [] → NoPairLeft f k (isLive marks)
   round-quiet range r e j a b nj na nb vj va vb h = go (decLt a b) (decLt b a)
     where
       hit : 1 ≤ smallerNode f k marks j → ⊥
-      hit l = not-both (isRepaired f k marks j) (pair-repairs f k marks j vj l) (none-those (isRepaired f k marks) 1 (nodeCount f k) (omega arith) (map-eq-nil-iff (stepOf f k marks r) .0 e) j (nj .first) (omega (arith, nj .last)))
+      hit l = not-both (isRepaired f k marks j) (pair-repairs f k marks j vj l) (none-those (isRepaired f k marks) 1 (nodeCount f k) (omega arith) (none-repaired r e) j (nj .first) (omega (arith, nj .last)))
 
       go : Dec (a < b) → Dec (b < a) → ⊥
       go (yes l) d = hit (smaller-hit j a b na nb l va vb h)
@@ -53,30 +58,25 @@ none-or-some : (steps : List Step) → (steps ≡ []) ⊎ (1 ≤ length steps)
 none-or-some [] = inl refl
 none-or-some (x ∷ steps) = inr (omega arith)
 
-then-some : (steps later : List Step) → 1 ≤ length steps → thenRounds steps later ≡ steps ++ later
-then-some [] later h = absurd (omega arith)
-then-some (x ∷ steps) later h = refl
-
 module _ (f : Family) (k : ℕ) where
   -- the marks when round r, which began with these, is done
   abbrev pub afterRound : List Bool → ℕ → List Bool
   afterRound marks r = marksAfter marks (roundSteps f k marks r)
 
-  -- a round without steps is the last
+  -- a round without steps is the last: it leaves the marks, so that the next has none either
   pub rounds-end : (marks : List Bool) (r m : ℕ) → roundSteps f k marks r ≡ [] → roundsFrom f k r marks m ≡ []
-  unfolding roundsFrom
+  unfolding roundsFrom setLive
   rounds-end marks r zero e = refl
-  rounds-end marks r (suc m) e = ap (λ (steps : List Step). thenRounds steps (roundsFrom f k (suc r) (afterRound marks r) m)) e
+  rounds-end marks r (suc m) e = rw e (rounds-end marks (suc r) m (rw (none-repaired f k marks r e)))
 
-  pub rounds-suc : (marks : List Bool) (r m : ℕ) → 1 ≤ length (roundSteps f k marks r) → roundsFrom f k r marks (suc m) ≡ roundSteps f k marks r ++ roundsFrom f k (suc r) (afterRound marks r) m
+  rounds-suc : (marks : List Bool) (r m : ℕ) → roundsFrom f k r marks (suc m) ≡ roundSteps f k marks r ++ roundsFrom f k (suc r) (afterRound marks r) m
   unfolding roundsFrom
-  rounds-suc marks r m h = then-some (roundSteps f k marks r) (roundsFrom f k (suc r) (afterRound marks r) m) h
+  rounds-suc marks r m = refl
 
-  pub rounds-more : (marks : List Bool) (r m : ℕ) → 1 ≤ length (roundSteps f k marks r) → 1 ≤ m
-      → roundsFrom f k r marks m ≡ roundSteps f k marks r ++ roundsFrom f k (suc r) (afterRound marks r) (m - 1)
-  rounds-more marks r m h l =
+  pub rounds-more : (marks : List Bool) (r m : ℕ) → 1 ≤ m → roundsFrom f k r marks m ≡ roundSteps f k marks r ++ roundsFrom f k (suc r) (afterRound marks r) (m - 1)
+  rounds-more marks r m l =
       let e : m ≡ suc (m - 1) = omega arith in
-      ap (roundsFrom f k r marks) e ∙ rounds-suc marks r (m - 1) h
+      ap (roundsFrom f k r marks) e ∙ rounds-suc marks r (m - 1)
 
   module _ (range : KInRange f k) where
     -- a round leaves as many nodes fewer missing as it has steps
@@ -89,14 +89,9 @@ module _ (f : Family) (k : ℕ) where
     pub rounds-make : (m : ℕ) (marks : List Bool) → length marks ≡ 256 → (r : ℕ) → CanMakeAll f k marks (roundsFrom f k r marks m)
     unfolding roundsFrom
     rounds-make zero marks size r = tt
-    rounds-make (suc m) marks size r = go (none-or-some (roundSteps f k marks r)) (rounds-make m (afterRound marks r) (after-size marks size r) (suc r))
-      where
-        go : (roundSteps f k marks r ≡ []) ⊎ (1 ≤ length (roundSteps f k marks r)) → CanMakeAll f k (afterRound marks r) (roundsFrom f k (suc r) (afterRound marks r) m)
-            → CanMakeAll f k marks (roundsFrom f k r marks (suc m))
-        go (inl e) later = rw (rounds-end marks r (suc m) e) tt
-        go (inr h) later =
-            rw (rounds-suc marks r m h)
-            (can-make-append f k marks (roundSteps f k marks r) (roundsFrom f k (suc r) (afterRound marks r) m) (round-makes f k range marks size r) later)
+    rounds-make (suc m) marks size r =
+        can-make-append f k marks (roundSteps f k marks r) (roundsFrom f k (suc r) (afterRound marks r) m) (round-makes f k range marks size r)
+        (rounds-make m (afterRound marks r) (after-size marks size r) (suc r))
 
     -- where no node is missing a round has no steps
     none-missing : (marks : List Bool) → length marks ≡ 256 → (r : ℕ) → nodesLeft marks (nodeCount f k) ≤ 0 → roundSteps f k marks r ≡ []
@@ -120,7 +115,7 @@ module _ (f : Family) (k : ℕ) where
             → NoPairLeft f k (isLive (marksAfter marks (roundsFrom f k r marks (suc m))))
         go (inl e) later = rw (rounds-end marks r (suc m) e) (round-quiet f k marks range r e)
         go (inr h) later =
-            rw (rounds-suc marks r m h, marks-append marks (roundSteps f k marks r) (roundsFrom f k (suc r) (afterRound marks r) m))
+            rw (rounds-suc marks r m, marks-append marks (roundSteps f k marks r) (roundsFrom f k (suc r) (afterRound marks r) m))
             (later (omega (arith, round-counts marks size r)))
 
     pub rounds-enough : (m more : ℕ) (marks : List Bool) → length marks ≡ 256 → (r : ℕ) → nodesLeft marks (nodeCount f k) ≤ m → m ≤ more
@@ -136,6 +131,6 @@ module _ (f : Family) (k : ℕ) where
             → roundsFrom f k r marks (suc more) ≡ roundsFrom f k r marks (suc m)
         go (inl e) later = rounds-end marks r (suc more) e ∙ sym (rounds-end marks r (suc m) e)
         go (inr g) later =
-            rounds-suc marks r more g
+            rounds-suc marks r more
             ∙ ap (λ (s : List Step). roundSteps f k marks r ++ s) (later (omega (arith, round-counts marks size r)))
-            ∙ sym (rounds-suc marks r m g)
+            ∙ sym (rounds-suc marks r m)

@@ -112,7 +112,7 @@ module _ {f : Family} {k : ℕ} {start : List Bool} {before out : List ℕ} {mar
         room = w .room;
         done = more;
         makes = can-make-append f k start (w .done) round (w .makes) (subst (λ (m : List Bool). CanMakeAll f k m round) (w .marked) (round-makes f k (w .range) marks marks-size (rounds + 1)));
-        split = w .split ∙ rw (rounds-more f k marks (rounds + 1) (nodeCount f k - rounds) h (omega (arith, w .fewer)), left, add-one (rounds + 1), append-assoc);
+        split = w .split ∙ rw (rounds-more f k marks (rounds + 1) (nodeCount f k - rounds) (omega (arith, w .fewer)), left, add-one (rounds + 1), append-assoc);
         marked = rw (marks-append start (w .done) round, ← w .marked);
         count = omega (arith, w .count);
         last = sym (last-more (w .done) round (rounds + 1) h (last-round f k marks (rounds + 1) h));

@@ -59,13 +59,9 @@ all-live f k marks j (suc m) h = go (isLive marks j) refl h (λ g. all-live f k 
 -- ---- the next repair
 
 module _ (f : Family) (k : ℕ) (marks : List Bool) (r : ℕ) where
-  -- the nodes above a node that the round repairs
-  abbrev above : ℕ → List ℕ
-  above node = thoseFrom (isRepaired f k marks) (suc node) (nodeCount f k - node)
-
   -- the steps of the round above a node
   abbrev pub stepsAbove : ℕ → List Step
-  stepsAbove node = map (stepOf f k marks r) (above node)
+  stepsAbove node = map (stepOf f k marks r) (thoseFrom (isRepaired f k marks) (suc node) (nodeCount f k - node))
 
   -- a repair as a step of the round
   abbrev pub asStep : Repair → Step

@@ -8,7 +8,7 @@ use Rattle.families.specs.declared.Family.{Family}
 use Rattle.families.specs.Families.{KInRange, IsNode, nodeCount, areRelated}
 use Rattle.lists.specs.Lists.{isLive}
 use Rattle.planning.specs.Pairs.{NoPairLeft}
-use Rattle.planning.specs.Plan.{Step, marksAfter, roundsFrom, planOf, nodesLeft}
+use Rattle.planning.specs.Plan.{Step, roundSteps, marksAfter, roundsFrom, planOf, nodesLeft}
 
 -- a step that can be made: it names a missing node and two live nodes related to it
 pub record CanMake (f : Family) (k : ℕ) (marks : List Bool) (step : Step) : Type 0 where
@@ -31,6 +31,8 @@ pub record PlanClaims (f : Family) (k : ℕ) (marks : List Bool) : Type 0 where
   pub makes : CanMakeAll f k marks (planOf f k marks)
   -- after it no missing node has a related pair with both nodes live
   pub ends : NoPairLeft f k (isLive (marksAfter marks (planOf f k marks)))
+  -- a round without repairs ends the plan: no round from it on has a step
+  pub ended : (r m : ℕ) → roundSteps f k marks r ≡ [] → roundsFrom f k r marks m ≡ []
   -- n rounds are enough: more of them add nothing
   pub enough : (m : ℕ) → nodeCount f k ≤ m → roundsFrom f k 1 marks m ≡ planOf f k marks
   -- each step repairs one node

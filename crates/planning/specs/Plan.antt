@@ -37,16 +37,11 @@ repairedNodes steps = map (λ (step : Step). step .node) steps
 abbrev pub marksAfter : List Bool → List Step → List Bool
 marksAfter marks steps = setLive marks (repairedNodes steps)
 
--- a round without repairs ends the plan
-abbrev pub thenRounds : List Step → List Step → List Step
-thenRounds [] later = []
-thenRounds (step ∷ steps) later = (step ∷ steps) ++ later
-
--- the rounds r, r + 1, .., m at most; a node repaired in a round serves from the next
+-- the rounds r, r + 1, .., of which there are m; a node repaired in a round serves from the next. A round without repairs leaves
+-- the marks, and so all rounds after it are without: it ends the plan (`PlanClaims`)
 unfoldable pub roundsFrom : Family → ℕ → ℕ → List Bool → ℕ → List Step
 roundsFrom f k r marks zero = []
-roundsFrom f k r marks (suc m) =
-    let steps = roundSteps f k marks r in thenRounds steps (roundsFrom f k (suc r) (marksAfter marks steps) m)
+roundsFrom f k r marks (suc m) = let steps = roundSteps f k marks r in steps ++ roundsFrom f k (suc r) (marksAfter marks steps) m
 
 -- the plan: n rounds are enough, since each but the last repairs a node (`PlanClaims`)
 unfoldable pub planOf : Family → ℕ → List Bool → List Step
