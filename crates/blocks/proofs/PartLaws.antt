@@ -1,7 +1,7 @@
 -- Parts of a list: a list filled from the front, and a part that becomes the XOR of two others chunk by chunk.
 -- Assumes nothing.
 use mathlib.Core.Path.{_≡_, refl, sym, ap, _∙_}
-use mathlib.Core.List.{List, [], _∷_, _++_, append-assoc}
+use mathlib.Core.List.{List, [], _∷_, _++_, append-assoc, zipWith}
 use mathlib.Core.Logic.{_⊎_, inl, inr, ⊎-elim}
 use Prim.Native.Nat.{ℕ, zero, suc, _+_, _-_, _*_, _≤_, _<_}
 use native.Mathlib.Nat.{add-assoc}
@@ -20,7 +20,7 @@ use Rattle.blocks.proofs.XorBytes.{length-xorBytes, xorBytes-comm}
 
 -- a part of the XOR is the XOR of the parts
 pub mid-xorBytes : (at n : ℕ) (a b : List ℕ) → midOf at n (xorBytes a b) ≡ xorBytes (midOf at n a) (midOf at n b)
-unfolding xorBytes
+unfolding xorBytes zipWith
 mid-xorBytes zero zero a b = refl
 mid-xorBytes zero (suc n) [] b = refl
 mid-xorBytes zero (suc n) (x ∷ xs) [] = refl
@@ -153,7 +153,7 @@ module _ {s : List ℕ} {len d a b : ℕ} {t : List ℕ} {i : ℕ} (w : Xored s 
       ∙ ap (λ (v : List ℕ). take d s ++ v) (fill-part x (drop d s) i at n g m (omega arith))))
 
   pub xor-byte : i < len → Xored s len d a b (set t (d + i) (bitXor (getD t (a + i) 0) (getD t (b + i) 0))) (i + 1)
-  unfolding xorBytes
+  unfolding xorBytes zipWith
   xor-byte k =
       rw (set-byte t (d + i) _ (omega arith))
       (rw (mid-byte t (a + i) (omega arith), mid-byte t (b + i) (omega arith)) at (xor-part i 1 (omega arith) (omega arith) (omega arith)))

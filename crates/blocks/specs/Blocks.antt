@@ -1,14 +1,12 @@
 -- Blocks of a nodes buffer (document 01, "The collection's units"), and the bytewise XOR of two blocks. L is any length.
 use Prim.Native.Nat.{ℕ, zero, suc, _+_, _-_, _*_}
-use mathlib.Core.List.{List, [], _∷_, _++_}
+use mathlib.Core.List.{List, [], _++_, zipWith}
 use lib.ListN.{take, drop}
 use lib.Bits.{bitXor}
 
 -- the bytewise XOR of two blocks of one length
 unfoldable pub xorBytes : List ℕ → List ℕ → List ℕ
-xorBytes [] ys = []
-xorBytes (x ∷ xs) [] = []
-xorBytes (x ∷ xs) (y ∷ ys) = bitXor x y ∷ xorBytes xs ys
+xorBytes = zipWith bitXor
 
 -- blocks 1 to m of a rule, one after the other
 unfoldable pub joined : (ℕ → List ℕ) → ℕ → List ℕ
