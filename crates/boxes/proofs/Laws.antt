@@ -2,7 +2,7 @@
 -- Assumes nothing.
 use mathlib.Core.Path.{_≡_, refl, sym, ap, ap₂, _∙_}
 use mathlib.Core.Bool.{true, false, not, _&&_}
-use mathlib.Core.List.{List, [], _∷_, _++_}
+use mathlib.Core.List.{List, [], _∷_, _++_, flatMap}
 use Prim.Native.Nat.{ℕ, zero, suc, _+_, _*_, _/_, _%_, _≤_, _<_}
 use native.Mathlib.Nat.{zero-mul, suc-mul, mul-le-mul-right, lt-trans}
 use native.Mathlib.Omega.{arith}
@@ -23,7 +23,7 @@ use Rattle.blocks.specs.Inner.{InBuffer}
 use Rattle.blocks.proofs.BlockLaws.{length-withBlock, blockOf-same, blockOf-other, in-buffer}
 use Rattle.blocks.proofs.PartLaws.{length-blockOf}
 use Rattle.boxes.specs.Box.{familyIn, kIn, blockLengthIn, heldCountIn, zerosIn, namesIn, bodiesIn, nodeCountIn, boxLength, boxChecks, bodyChecks, bodyPlace, bodyStart}
-use Rattle.boxes.specs.Bodies.{bodiesOf, boxOf, withBodies}
+use Rattle.boxes.specs.Bodies.{boxOf, withBodies}
 use Rattle.boxes.specs.Inner.{ListIn}
 use Rattle.boxes.specs.Claims.{AcceptedBox}
 use Rattle.boxes.proofs.Answers.{parametersOf, box-none, length-names, by-list, accepted-body}
@@ -71,21 +71,21 @@ body-fits L i m h =
     let b : suc i * L ≤ m * L = mul-le-mul-right L h in
     rw (suc-mul i L) at b
 
-pub length-bodiesOf : (L : ℕ) (nodes list : List ℕ) → ListIn L nodes list → length (bodiesOf L nodes list) ≡ length list * L
-unfolding bodiesOf
-length-bodiesOf L nodes [] h = sym (zero-mul L)
-length-bodiesOf L nodes (j ∷ list) h =
-    length-append (blockOf L nodes j) (bodiesOf L nodes list)
-    ∙ omega (arith, length-blockOf (in-first h), length-bodiesOf L nodes list (in-rest h), suc-mul (length list) L)
+pub length-bodies : (L : ℕ) (nodes list : List ℕ) → ListIn L nodes list → length (flatMap (blockOf L nodes) list) ≡ length list * L
+unfolding flatMap
+length-bodies L nodes [] h = sym (zero-mul L)
+length-bodies L nodes (j ∷ list) h =
+    length-append (blockOf L nodes j) (flatMap (blockOf L nodes) list)
+    ∙ omega (arith, length-blockOf (in-first h), length-bodies L nodes list (in-rest h), suc-mul (length list) L)
 
 -- the body at each place
-pub body-at : (L : ℕ) (nodes list : List ℕ) (i : ℕ) → ListIn L nodes list → i < length list → midOf (i * L) L (bodiesOf L nodes list) ≡ blockOf L nodes (getD list i 0)
-unfolding bodiesOf
+pub body-at : (L : ℕ) (nodes list : List ℕ) (i : ℕ) → ListIn L nodes list → i < length list → midOf (i * L) L (flatMap (blockOf L nodes) list) ≡ blockOf L nodes (getD list i 0)
+unfolding flatMap
 body-at L nodes [] i h l = absurd (omega arith)
-body-at L nodes (j ∷ list) zero h l = rw (zero-mul L) (take-at (blockOf L nodes j) (bodiesOf L nodes list) L (length-blockOf (in-first h)))
+body-at L nodes (j ∷ list) zero h l = rw (zero-mul L) (take-at (blockOf L nodes j) (flatMap (blockOf L nodes) list) L (length-blockOf (in-first h)))
 body-at L nodes (j ∷ list) (suc i) h l =
     let e : suc i * L ≡ length (blockOf L nodes j) + i * L = omega (arith, length-blockOf (in-first h), suc-mul i L) in
-    rw (e, drop-append-add (blockOf L nodes j) (bodiesOf L nodes list) (i * L)) (body-at L nodes list i (in-rest h) (omega arith))
+    rw (e, drop-append-add (blockOf L nodes j) (flatMap (blockOf L nodes) list) (i * L)) (body-at L nodes list i (in-rest h) (omega arith))
 
 -- ---- bodies put in the places of a list of nodes
 
@@ -117,8 +117,8 @@ bodies-other L nodes (i ∷ list) bodies j h e p n =
 
 -- the bodies that were put are the bodies of the list
 pub bodies-there : (L : ℕ) (nodes list bodies : List ℕ) → rises list ≡ true → ListIn L nodes list → length bodies ≡ length list * L
-    → bodiesOf L (withBodies L nodes list bodies) list ≡ bodies
-unfolding bodiesOf withBodies
+    → flatMap (blockOf L (withBodies L nodes list bodies)) list ≡ bodies
+unfolding flatMap withBodies
 bodies-there L nodes [] bodies r h e = sym (none bodies (e ∙ zero-mul L))
   where
     none : (l : List ℕ) → length l ≡ 0 → l ≡ []
@@ -138,12 +138,12 @@ bodies-there L nodes (j ∷ list) bodies r h e =
 
 -- the bodies of one buffer put into another: each node of the list then has its block of the first
 pub bodies-same : (L : ℕ) (nodes other list : List ℕ) (i : ℕ) → rises list ≡ true → ListIn L nodes list → ListIn L other list → i < length list
-    → blockOf L (withBodies L other list (bodiesOf L nodes list)) (getD list i 0) ≡ blockOf L nodes (getD list i 0)
+    → blockOf L (withBodies L other list (flatMap (blockOf L nodes) list)) (getD list i 0) ≡ blockOf L nodes (getD list i 0)
 bodies-same L nodes other list i r h g l =
-    let e = length-bodiesOf L nodes list h in
-    let k = in-kept _ (length-withBodies L other list (bodiesOf L nodes list) g e) g in
-    sym (body-at L (withBodies L other list (bodiesOf L nodes list)) list i k l)
-    ∙ ap (midOf (i * L) L) (bodies-there L other list (bodiesOf L nodes list) r g e)
+    let e = length-bodies L nodes list h in
+    let k = in-kept _ (length-withBodies L other list (flatMap (blockOf L nodes) list) g e) g in
+    sym (body-at L (withBodies L other list (flatMap (blockOf L nodes) list)) list i k l)
+    ∙ ap (midOf (i * L) L) (bodies-there L other list (flatMap (blockOf L nodes) list) r g e)
     ∙ body-at L nodes list i h l
 
 -- ---- an accepted box
@@ -188,7 +188,7 @@ module _ (bytes : List ℕ) (j : ℕ) (e : firstMet (bodyChecks bytes j) ≡ 0) 
 
 pub length-boxOf : (family k L : ℕ) (list nodes : List ℕ) → ListIn L nodes list → length (boxOf family k L list nodes) ≡ boxLength (length list) L
 unfolding boxOf
-length-boxOf family k L list nodes h = omega (arith, length-append list (bodiesOf L nodes list), length-bodiesOf L nodes list h)
+length-boxOf family k L list nodes h = omega (arith, length-append list (flatMap (blockOf L nodes) list), length-bodies L nodes list h)
 
 -- its fields are what it was made of
 pub record FieldsOf (family k L : ℕ) (list nodes : List ℕ) : Type 0 where
@@ -198,7 +198,7 @@ pub record FieldsOf (family k L : ℕ) (list nodes : List ℕ) : Type 0 where
   pub held-is : heldCountIn (boxOf family k L list nodes) ≡ length list
   pub zeros-is : zerosIn (boxOf family k L list nodes) ≡ true
   pub names-is : namesIn (boxOf family k L list nodes) ≡ list
-  pub bodies-is : bodiesIn (boxOf family k L list nodes) ≡ bodiesOf L nodes list
+  pub bodies-is : bodiesIn (boxOf family k L list nodes) ≡ flatMap (blockOf L nodes) list
 
 pub fields-of : (family k L : ℕ) (list nodes : List ℕ) → FieldsOf family k L list nodes
 unfolding boxOf
@@ -209,8 +209,8 @@ fields-of family k L list nodes =
       length-is = omega arith;
       held-is = refl;
       zeros-is = refl;
-      names-is = take-append-seam list (bodiesOf L nodes list);
-      bodies-is = sym (drop-drop (length list) 8 (boxOf family k L list nodes)) ∙ drop-append-seam list (bodiesOf L nodes list);
+      names-is = take-append-seam list (flatMap (blockOf L nodes) list);
+      bodies-is = sym (drop-drop (length list) 8 (boxOf family k L list nodes)) ∙ drop-append-seam list (flatMap (blockOf L nodes) list);
     }
 
 -- and it is accepted
@@ -242,7 +242,7 @@ three-zeros x y z h =
     (eqb-true x 0 (and-left (eqb x 0) (eqb y 0 && eqb z 0) h), eqb-true y 0 (and-left (eqb y 0) (eqb z 0) t), eqb-true z 0 (and-right (eqb y 0) (eqb z 0) t))
 
 pub box-of-fields : (bytes nodes : List ℕ) → getD bytes 2 0 < 256 → firstMet (boxChecks bytes) ≡ 0
-    → bodiesOf (blockLengthIn bytes) nodes (namesIn bytes) ≡ bodiesIn bytes
+    → flatMap (blockOf (blockLengthIn bytes) nodes) (namesIn bytes) ≡ bodiesIn bytes
     → boxOf (familyIn bytes) (kIn bytes) (blockLengthIn bytes) (namesIn bytes) nodes ≡ bytes
 unfolding boxOf
 box-of-fields bytes nodes byte e h =

@@ -1,19 +1,20 @@
 -- How far the bodies of a list of nodes have been read into a nodes buffer, or written one after the other.
 -- Assumes nothing.
 use mathlib.Core.Path.{_≡_, refl, sym, _∙_}
-use mathlib.Core.List.{List, _++_}
-use Prim.Native.Nat.{ℕ, _+_, _-_, _*_, _≤_}
+use mathlib.Core.List.{List, [], _∷_, _++_, flatMap}
+use Prim.Native.Nat.{ℕ, _+_, _-_, _*_, _/_, _%_, _≤_}
 use native.Mathlib.Nat.{zero-mul, add-mul, mul-le-mul-right}
 use native.Mathlib.Omega.{arith}
 use lib.ListN.{length, getD, drop, length-append, drop-of-length-le}
 use borrow.Rule.Slice.PartMut.{midOf, putMid}
 use Rattle.base.proofs.Fill.{filled, fill-done}
+use Rattle.blocks.specs.Blocks.{blockOf}
 use Rattle.blocks.specs.Inner.{BlocksIn}
 use Rattle.blocks.proofs.PartLaws.{fill-part, put-next, length-copied}
 use Rattle.boxes.specs.Box.{boxLength}
-use Rattle.boxes.specs.Bodies.{headerOf, bodiesOf, boxOf, withBodies}
+use Rattle.boxes.specs.Bodies.{boxOf, withBodies}
 use Rattle.boxes.specs.Inner.{ListIn, Stretch}
-use Rattle.boxes.proofs.Laws.{in-kept, length-bodiesOf}
+use Rattle.boxes.proofs.Laws.{in-kept, length-bodies}
 use Rattle.boxes.proofs.Stretches.{stretch-in, stretch-at, stretch-put}
 
 -- ---- the body at place i, from 0, is block i + 1 of the bodies
@@ -66,7 +67,7 @@ pub record Writing (L : ℕ) (list nodes start out : List ℕ) (i : ℕ) : Type 
   pub size : length start ≡ length list * L
   pub within : i ≤ length list
   pub kept : length out ≡ length start
-  pub is : out ≡ filled (bodiesOf L nodes list) start (i * L)
+  pub is : out ≡ filled (flatMap (blockOf L nodes) list) start (i * L)
 
 pub write-none : {L : ℕ} {list nodes out : List ℕ} → ListIn L nodes list → length out ≡ length list * L → Writing L list nodes out out 0
 write-none {L} h e = record { inside = h; size = e; within = omega arith; kept = refl; is = rw (zero-mul L) }
@@ -81,8 +82,8 @@ module _ {L : ℕ} {list nodes start out : List ℕ} {i : ℕ} (w : Writing L li
 
     pub write-more : Writing L list nodes start (putMid ((i + 1 - 1) * L) (r * L) out (midOf ((getD list i 0 - 1) * L) (r * L) nodes)) (i + r)
     write-more =
-        let b = bodiesOf L nodes list in
-        let e = length-bodiesOf L nodes list (w .inside) in
+        let b = flatMap (blockOf L nodes) list in
+        let e = length-bodies L nodes list (w .inside) in
         let f : (i + r) * L ≤ length list * L = mul-le-mul-right L (stretch .within) in
         let s = add-mul i r L in
         record {
@@ -93,17 +94,17 @@ module _ {L : ℕ} {list nodes start out : List ℕ} {i : ℕ} (w : Writing L li
           is = rw (back i, ← stretch-at (w .inside) stretch r (omega arith), w .is, s) (fill-part b start (i * L) (i * L) (r * L) (omega arith) (omega arith) (omega arith));
         }
 
-  pub write-done : length list ≤ i → out ≡ bodiesOf L nodes list
+  pub write-done : length list ≤ i → out ≡ flatMap (blockOf L nodes) list
   write-done l =
       let e : i ≡ length list = omega arith in
-      w .is ∙ rw e (fill-done (bodiesOf L nodes list) start (length list * L) (omega (arith, length-bodiesOf L nodes list (w .inside))) (omega arith))
+      w .is ∙ rw e (fill-done (flatMap (blockOf L nodes) list) start (length list * L) (omega (arith, length-bodies L nodes list (w .inside))) (omega arith))
 
 -- ---- the parts of a box, put one after the other
 
 pub box-written : (family k L : ℕ) (list nodes out : List ℕ)
-    → putMid (8 + length list) (length list * L) (putMid 8 (length list) (headerOf family k L (length list) ++ drop 8 out) list) (bodiesOf L nodes list)
+    → putMid (8 + length list) (length list * L) (putMid 8 (length list) (family ∷ k ∷ L % 256 ∷ L / 256 ∷ length list ∷ 0 ∷ 0 ∷ 0 ∷ drop 8 out) list) (flatMap (blockOf L nodes) list)
     ≡ boxOf family k L list nodes ++ drop (boxLength (length list) L) out
 unfolding boxOf
 box-written family k L list nodes out =
-    let h = headerOf family k L (length list) in
-    rw (put-next h list out 8 (length list) refl, put-next (h ++ list) (bodiesOf L nodes list) out (8 + length list) (length list * L) (length-append h list))
+    let h = family ∷ k ∷ L % 256 ∷ L / 256 ∷ length list ∷ 0 ∷ 0 ∷ 0 ∷ [] in
+    rw (put-next h list out 8 (length list) refl, put-next (h ++ list) (flatMap (blockOf L nodes) list) out (8 + length list) (length list * L) (length-append h list))

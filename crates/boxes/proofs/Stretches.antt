@@ -1,7 +1,7 @@
 -- Stretches of a list of nodes: the bodies of nodes whose numbers follow each other are one part of the bodies and one of a nodes buffer.
 -- Assumes nothing.
 use mathlib.Core.Path.{_≡_, ap, _∙_}
-use mathlib.Core.List.{List}
+use mathlib.Core.List.{List, flatMap}
 use Prim.Native.Nat.{ℕ, zero, suc, _+_, _-_, _*_, _≤_, _<_}
 use native.Mathlib.Nat.{zero-mul, suc-mul, add-mul, add-zero, mul-le-mul-right}
 use native.Mathlib.Decide.{decLt}
@@ -12,7 +12,7 @@ use borrow.Rule.Slice.PartMut.{midOf, putMid}
 use Rattle.blocks.specs.Blocks.{blockOf, withBlock}
 use Rattle.blocks.specs.Inner.{BlocksIn}
 use Rattle.blocks.proofs.PartLaws.{put-block, length-mid, mid-beside, put-beside}
-use Rattle.boxes.specs.Bodies.{bodiesOf, withBodies}
+use Rattle.boxes.specs.Bodies.{withBodies}
 use Rattle.boxes.specs.Inner.{ListIn, Stretch}
 use Rattle.boxes.proofs.Laws.{body-at}
 
@@ -48,11 +48,11 @@ module _ {L : ℕ} {nodes list : List ℕ} {i r : ℕ} (inside : ListIn L nodes 
       record { first = first-node; last = rw (s, suc-mul m L) (omega (arith, rw (e, place-after L (getD list i 0) m first-node) at b)) }
 
   -- the bodies of its first m nodes are one part of the bodies, and one of the nodes buffer
-  pub stretch-at : (m : ℕ) → m ≤ r → midOf (i * L) (m * L) (bodiesOf L nodes list) ≡ midOf ((getD list i 0 - 1) * L) (m * L) nodes
+  pub stretch-at : (m : ℕ) → m ≤ r → midOf (i * L) (m * L) (flatMap (blockOf L nodes) list) ≡ midOf ((getD list i 0 - 1) * L) (m * L) nodes
   unfolding blockOf
   stretch-at zero h = rw (zero-mul L)
   stretch-at (suc m) h =
-      let b = bodiesOf L nodes list in
+      let b = flatMap (blockOf L nodes) list in
       let p = (getD list i 0 - 1) * L in
       rw (suc-mul m L, mid-beside b (i * L) (m * L) L, mid-beside nodes p (m * L) L, stretch-at m (omega arith), ← add-mul i m L, body-at L nodes list (i + m) inside (omega arith), stretch .each m h, place-after L (getD list i 0) m first-node)
 

@@ -1,15 +1,16 @@
 // Boxes of nodes: their checks, the body of a node, and bodies copied between a box and a nodes buffer.
 use base::wide;
 ghost use mathlib.Core.Path.{_≡_};
-ghost use mathlib.Core.List.{_++_};
-ghost use Prim.Native.Nat.{_+_, _*_, _≤_, _<_};
+ghost use mathlib.Core.List.{_∷_, _++_, flatMap};
+ghost use Prim.Native.Nat.{_+_, _*_, _/_, _%_, _≤_, _<_};
 ghost use lib.ListN.{length, drop};
 ghost use Rattle.families.specs.Families.{KInRange, familyOf};
 ghost use Rattle.checks.specs.Checks.{firstMet};
 ghost use Rattle.checks.specs.Parameters.{parameterChecks};
+ghost use Rattle.blocks.specs.Blocks.{blockOf};
 ghost use Rattle.lists.specs.Lists.{placeIn};
 ghost use Rattle.boxes.specs.Box.{familyIn, kIn, blockLengthIn, heldCountIn, zerosIn, namesIn, bodiesIn, nodeCountIn, boxLength, boxChecks, bodyChecks, bodyPlace, bodyStart, bodyOf};
-ghost use Rattle.boxes.specs.Bodies.{headerOf, bodiesOf, boxOf, withBodies};
+ghost use Rattle.boxes.specs.Bodies.{boxOf, withBodies};
 ghost use Rattle.boxes.specs.Inner.{ListIn, Stretch};
 
 // The number of a box's family.
@@ -206,7 +207,7 @@ pub fn read_bodies(len: usize, nodes: &mut [u8], list: &[u8], bodies: &[u8])
 fn write_header(family: usize, k: usize, len: usize, count: usize, out: &mut [u8])
     requires { ⌜ (family < 256) × (k < 256) × (len < 65536) × (count < 256) ⌝ }
     requires { ⌜ 8 ≤ length (now out) ⌝ }
-    ensures { λ _. ⌜ now (out .exit) ≡ headerOf family k len count ++ drop 8 (now (out .entry)) ⌝ }
+    ensures { λ _. ⌜ now (out .exit) ≡ family ∷ k ∷ len % 256 ∷ len / 256 ∷ count ∷ 0 ∷ 0 ∷ 0 ∷ drop 8 (now (out .entry)) ⌝ }
 {
     out[0] = family as u8;
     out[1] = k as u8;
@@ -222,7 +223,7 @@ fn write_header(family: usize, k: usize, len: usize, count: usize, out: &mut [u8
 fn write_bodies(len: usize, list: &[u8], nodes: &[u8], out: &mut [u8])
     requires { ⌜ ListIn len (now nodes) (now list) ⌝ }
     requires { ⌜ length (now out) ≡ length (now list) * len ⌝ }
-    ensures { λ _. ⌜ now (out .exit) ≡ bodiesOf len (now (nodes .entry)) (now (list .entry)) ⌝ }
+    ensures { λ _. ⌜ now (out .exit) ≡ flatMap (blockOf len (now (nodes .entry))) (now (list .entry)) ⌝ }
 {
     let count = list.len();
     let mut i: usize = 0;

@@ -2,7 +2,7 @@
 -- Assumes nothing.
 use mathlib.Core.Path.{_≡_, refl, sym, ap, ap₂, _∙_}
 use mathlib.Core.Bool.{true, false, not}
-use mathlib.Core.List.{List, [], _∷_, _++_}
+use mathlib.Core.List.{List, [], _∷_, _++_, flatMap}
 use Prim.Native.Nat.{ℕ, _*_, _≤_, _<_}
 use native.Mathlib.Omega.{arith}
 use borrow.Author.Tests.{eqb-true, eq-eqb, ltb-false, le-ltb, not-false}
@@ -18,7 +18,7 @@ use Rattle.blocks.specs.Blocks.{blockOf}
 use Rattle.lists.specs.Lists.{someOutside, rises, someMissing, liveNodes}
 use Rattle.lists.proofs.Laws.{live-nodes-of-list, live-nodes-inside, live-nodes-rise, live-nodes-live, list-outside-none, rising-few}
 use Rattle.boxes.specs.Box.{familyIn, kIn, blockLengthIn, namesIn, bodiesIn, nodeCountIn, boxChecks}
-use Rattle.boxes.specs.Bodies.{bodiesOf, boxOf, withBodies}
+use Rattle.boxes.specs.Bodies.{boxOf, withBodies}
 use Rattle.boxes.specs.Inner.{ListIn}
 use Rattle.boxes.specs.Claims.{AcceptedBox}
 use Rattle.boxes.proofs.Answers.{box-none}
@@ -138,7 +138,7 @@ module _ (s : Session) (nodes list out : List ℕ) (e : firstMet (writeChecks s 
     box-reads = rw (box-written, reads, box-passes)
 
     -- the bodies of the buffer that was written
-    box-read : nodesRead (boxWritten s nodes list out) other ≡ withBodies (s .len) other (listed s list) (bodiesOf (s .len) nodes (listed s list))
+    box-read : nodesRead (boxWritten s nodes list out) other ≡ withBodies (s .len) other (listed s list) (flatMap (blockOf (s .len) nodes) (listed s list))
     unfolding nodesRead
     box-read = ap (λ (x : List ℕ). nodesRead x other) box-written ∙ rw (reads, fields .bodies-is, fields .names-is, fields .length-is)
 
