@@ -4,7 +4,9 @@ use mathlib.Core.Path.{_≡_, refl, sym, _∙_}
 use mathlib.Core.List.{List}
 use Prim.Native.Nat.{ℕ, _*_, _≤_}
 use borrow.Author.Tests.{eq-eqb, ne-eqb, eqb-true, not-false}
+use lib.Dec.{eqb}
 use lib.ListN.{length}
+use Rattle.base.proofs.Tests.{and-left, and-right}
 use Rattle.families.specs.Families.{familyOf, nodeCount}
 use Rattle.families.proofs.Laws.{few, short}
 use Rattle.checks.specs.Checks.{firstMet}
@@ -64,4 +66,7 @@ module _ (family k L : ℕ) (object nodes : List ℕ) where
   unfolding encodeAnswer encodeChecks parameterChecks
   accepted-call e =
       let n = accepted (encodeChecks family k L (length object) (length nodes)) refl e in
-      record { range = range-of family k L (n .0, (n .1 .0, (n .1 .1 .0, tt))); object-size = eqb-true _ _ (not-false _ (n .1 .1 .1 .0)); nodes-size = eqb-true _ _ (not-false _ (n .1 .1 .1 .1 .0)) }
+      let object-is = eqb (length object) (k * L) in
+      let nodes-are = eqb (length nodes) (nodeCount (familyOf family) k * L) in
+      let sizes = not-false _ (n .1 .1 .1 .0) in
+      record { range = range-of family k L (n .0, (n .1 .0, (n .1 .1 .0, tt))); object-size = eqb-true _ _ (and-left object-is nodes-are sizes); nodes-size = eqb-true _ _ (and-right object-is nodes-are sizes) }

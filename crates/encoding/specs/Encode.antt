@@ -1,6 +1,6 @@
 -- Encode: its checks in document 01's order, 1, 2, 3, 6, and what it leaves in the nodes buffer.
 use Prim.Native.Nat.{ℕ, _*_}
-use mathlib.Core.Bool.{not}
+use mathlib.Core.Bool.{not, _&&_}
 use mathlib.Core.List.{List, [], _∷_, _++_}
 use lib.ListN.{length}
 use lib.Dec.{eqb}
@@ -12,10 +12,7 @@ use Rattle.encoding.specs.Matrix.{nodesBuffer}
 -- 1, 2, 3, then 6 where the object is not k × L bytes or the nodes buffer not n × L bytes
 unfoldable pub encodeChecks : ℕ → ℕ → ℕ → ℕ → ℕ → List Check
 encodeChecks family k L objectLength nodesLength =
-    parameterChecks family k L
-    ++ ((not (eqb objectLength (k * L)) gives 6)
-    ∷ (not (eqb nodesLength (nodeCount (familyOf family) k * L)) gives 6)
-    ∷ [])
+    parameterChecks family k L ++ ((not (eqb objectLength (k * L) && eqb nodesLength (nodeCount (familyOf family) k * L)) gives 6) ∷ [])
 
 -- the answer: a refusal's number, or 0
 unfoldable pub encodeAnswer : ℕ → ℕ → ℕ → List ℕ → List ℕ → ℕ

@@ -17,13 +17,9 @@ use Rattle.repair.specs.Session.{sessionOf, refusedStart, nodeCountOf, n
 abbrev pub sessionIn : List ℕ → Session
 sessionIn bytes = sessionOf (familyIn bytes) (kIn bytes) (blockLengthIn bytes) (namesIn bytes)
 
--- a box that passes a list of checks gives its session
-abbrev pub boxAnswer : List ℕ → List Check → Started
-boxAnswer bytes checks = answer checks (record { refusal = 0; session = sessionIn bytes }) refusedStart
-
--- a box checked alone
+-- a box checked alone gives its session
 unfoldable pub checkedBox : List ℕ → Started
-checkedBox bytes = boxAnswer bytes (boxChecks bytes)
+checkedBox bytes = answer (boxChecks bytes) (record { refusal = 0; session = sessionIn bytes }) refusedStart
 
 -- reading: the box's checks, then 6
 unfoldable pub readChecks : List ℕ → List ℕ → List Check
@@ -31,7 +27,7 @@ readChecks bytes nodes = boxChecks bytes ++ ((not (eqb (length nodes) (nodeCount
 
 -- what reading gives
 unfoldable pub readBox : List ℕ → List ℕ → Started
-readBox bytes nodes = boxAnswer bytes (readChecks bytes nodes)
+readBox bytes nodes = answer (readChecks bytes nodes) (record { refusal = 0; session = sessionIn bytes }) refusedStart
 
 -- the nodes buffer after reading: the bodies of the named nodes; places of missing nodes keep their bytes
 unfoldable pub nodesRead : List ℕ → List ℕ → List ℕ

@@ -1,7 +1,6 @@
 -- `readout::data_node` meets its contract: every data block has a node of its own.
 -- Assumes nothing.
 use mathlib.Core.Path.{_∙_, ap}
-use Prim.Native.Nat.{_-_}
 use Rattle.families.specs.Families.{nodeOf}
 use Rattle.families.proofs.Laws.{short}
 use Rattle.readout.proofs.Laws.{data-node}
