@@ -15,7 +15,7 @@ use Rattle.repair.specs.declared.ReadOut.{ReadOut}
 use Rattle.repair.specs.Boxed.{readBox, nodesRead, written, outWritten}
 use Rattle.repair.specs.ReadOut.{readOut, objectOut}
 use Rattle.repair.specs.Repairs.{ran, nodesRan}
-use Rattle.repair.specs.Calls.{Move, State, stateAfter}
+use Rattle.repair.specs.Calls.{Move, State, called, stateAfter}
 use Rattle.repair.specs.LeftOver.{lastSession}
 use Rattle.repair.specs.RepairClaims.{LiveAreOwn, OwnClaims}
 use Rattle.repair.specs.WholeWay.{OutWhereOpen, Way, startOf, nodesEncoded, boxAway, stateAt, WholeWay}
@@ -53,7 +53,7 @@ demand-3-c family k L list e calls M h =
 own-agrees : (object : List ℕ) (s : Session) (nodes : List ℕ) (moves : List Move) → OwnClaims object s nodes moves → OwnC object (sessionForC s) nodes moves
 unfolding readOut
 own-agrees object s nodes moves o =
-    let after = stateAfter s nodes moves in
+    let after = stateAfter called s nodes moves in
     let held = state-agrees s nodes moves in
     record {
       live = rw held (subst (λ (t : Session). LiveAreOwn object t (after .nodes)) (sym (there-and-back (after .session))) (o .live));
@@ -117,7 +117,7 @@ module _ (way : Way) (on : OnTheWayC way) (moves : List Move) where
   whole : WholeWay way moves
   whole = whole-way-claim way (record { encode = on .encode; start = on .start; write = writes; read = rw same at (on .read) }) moves
 
-  abbrev at-end : State
+  abbrev at-end : State Session
   at-end = stateAt way moves
 
   state-is : stateAtC way moves ≡ record { session = sessionForC (at-end .session); nodes = at-end .nodes }

@@ -22,14 +22,14 @@ use Rattle.repair.specs.Boxed.{readBox, nodesRead, written, outWritten}
 use Rattle.repair.specs.ReadOut.{readOut, objectOut}
 use Rattle.repair.specs.Step.{stepped, nodesStepped}
 use Rattle.repair.specs.Repairs.{planned, outPlanned, ran, nodesRan}
-use Rattle.repair.specs.Calls.{Move, run, Call, liveAfter}
+use Rattle.repair.specs.Calls.{Move, run, State, Call, liveAfter, stateAfter}
 use Rattle.repair.specs.RepairClaims.{LiveAreOwn}
 use Rattle.repair.specs.WholeWay.{LowestOpen, NoneOpen, Way, startOf, nodesEncoded}
 use Rattle.mogtriz.specs.declared.sessions.MarkedSession.{MarkedSession}
 use Rattle.mogtriz.specs.Sessions.{someAbove1, sessionForC, sessionOfC, startedC, writtenC, readOutC, partIn}
 use Rattle.mogtriz.specs.Repairs.{steppedC, plannedC, ranC}
 use Rattle.mogtriz.specs.Exports.{nodeCountOr0, columnOr0, nodeOr0, relatedOr0}
-use Rattle.mogtriz.specs.Calls.{lastSessionC, StateC, stateAfterC}
+use Rattle.mogtriz.specs.Calls.{calledC, lastSessionC}
 
 -- ---- a session handed to C and back
 
@@ -193,9 +193,9 @@ Demand3C = (family k L : ℕ) (list : List ℕ) → startedC (started family k L
 -- once session and buffer have gone through a list of steps and runs, every live block is the object's, and what mogtriz_read_out
 -- leaves, where it is accepted, is the object
 pub record OwnC (object : List ℕ) (s : MarkedSession) (nodes : List ℕ) (moves : List Move) : Type 0 where
-  pub live : LiveAreOwn object (sessionOfC (stateAfterC s nodes moves .session)) (stateAfterC s nodes moves .nodes)
-  pub out : (result : List ℕ) → readOutC (stateAfterC s nodes moves .session) (stateAfterC s nodes moves .nodes) result .refusal ≡ 0
-      → objectOut (sessionOfC (stateAfterC s nodes moves .session)) (stateAfterC s nodes moves .nodes) result ≡ object
+  pub live : LiveAreOwn object (sessionOfC (stateAfter calledC s nodes moves .session)) (stateAfter calledC s nodes moves .nodes)
+  pub out : (result : List ℕ) → readOutC (stateAfter calledC s nodes moves .session) (stateAfter calledC s nodes moves .nodes) result .refusal ≡ 0
+      → objectOut (sessionOfC (stateAfter calledC s nodes moves .session)) (stateAfter calledC s nodes moves .nodes) result ≡ object
 
 -- a session with a byte above 1 is refused by every call, so the bytes may be any
 abbrev pub OwnCClaim : Type 0
@@ -220,8 +220,8 @@ pub record OnTheWayC (way : Way) : Type 0 where
   pub read : startedC (readBox (boxAwayC way) (way .other)) .refusal ≡ 0
 
 -- session and buffer once the box is read and a list of mogtriz_step and mogtriz_run made, refused ones included
-abbrev pub stateAtC : Way → List Move → StateC
-stateAtC way moves = stateAfterC (startedC (readBox (boxAwayC way) (way .other)) .session) (nodesRead (boxAwayC way) (way .other)) moves
+abbrev pub stateAtC : Way → List Move → State MarkedSession
+stateAtC way moves = stateAfter calledC (startedC (readBox (boxAwayC way) (way .other)) .session) (nodesRead (boxAwayC way) (way .other)) moves
 
 -- mogtriz_read_out is accepted exactly where no data block's node is open, and turned away with 14 and block i exactly where i is the
 -- lowest whose node is

@@ -22,7 +22,7 @@ use Rattle.repair.specs.declared.Repairs.{Repairs}
 use Rattle.repair.specs.Session.{sessionWith, sessionOf, startChecks, started, nodesChecks, nodeCountOf}
 use Rattle.repair.specs.Step.{stepChecks, withLive, stepped}
 use Rattle.repair.specs.Repairs.{planIn, repairsOf, refusedRepairs, planChecks, planned, ran}
-use Rattle.repair.specs.Calls.{Move, step, run, Call, sessionAfter, sessionAfterAll, addedBy, liveAfter}
+use Rattle.repair.specs.Calls.{Move, step, run, called, Call, sessionAfterAll, addedBy, liveAfter}
 use Rattle.repair.proofs.Refused.{refusedStep}
 use Rattle.repair.proofs.Accepted.{plan-accepted, run-accepted}
 use Rattle.repair.proofs.StartLaws.{accepted-start}
@@ -69,7 +69,7 @@ module _ (family k L : ℕ) where
   none-added : (now : List ℕ) → from now ≡ from (now ++ [])
   none-added now = ap from (sym (append-nil now))
 
-  call-session : (now nodes : List ℕ) (move : Move) → sessionAfter (from now) nodes move ≡ from (now ++ addedBy (from now) nodes move)
+  call-session : (now nodes : List ℕ) (move : Move) → called (from now) nodes move .session ≡ from (now ++ addedBy (from now) nodes move)
   unfolding stepped ran
   call-session now nodes (step j a b) =
       call-either (stepChecks (from now) nodes j a b) _ (refusedStep (from now)) (j ∷ []) []
@@ -78,11 +78,11 @@ module _ (family k L : ℕ) where
       call-either (nodesChecks (from now) (length nodes)) _ (refusedRepairs (from now)) (repairedNodes (planIn (from now))) []
       (λ (r : Repairs) (added : List ℕ). r .session ≡ from (now ++ added)) (added-session now (repairedNodes (planIn (from now)))) (λ n. none-added now)
 
-  pub calls-session : (calls : List Call) (now : List ℕ) → sessionAfterAll (from now) calls ≡ from (liveAfter family k L now calls)
+  pub calls-session : (calls : List Call) (now : List ℕ) → sessionAfterAll called (from now) calls ≡ from (liveAfter family k L now calls)
   unfolding sessionAfterAll liveAfter
   calls-session [] now = refl
   calls-session (call ∷ calls) now =
-      ap (λ (s : Session). sessionAfterAll s calls) (call-session now (call .nodes) (call .move))
+      ap (λ (s : Session). sessionAfterAll called s calls) (call-session now (call .nodes) (call .move))
       ∙ calls-session calls (now ++ addedBy (from now) (call .nodes) (call .move))
 
   -- ---- the nodes that a call adds

@@ -27,7 +27,7 @@ use Rattle.repair.specs.Session.{sessionOf, startChecks, started, nodeCo
 use Rattle.repair.specs.Boxed.{sessionIn, checkedBox, readChecks, readBox, nodesRead, writeChecks, written}
 use Rattle.repair.specs.Step.{stepChecks, stepped, nodesStepped}
 use Rattle.repair.specs.Repairs.{planIn, refusedRepairs, ran, nodesRan}
-use Rattle.repair.specs.Calls.{Move, step, run, sessionAfter, nodesAfter}
+use Rattle.repair.specs.Calls.{Move, step, run, called}
 use Rattle.repair.specs.WholeWay.{Fits, SameCode}
 use Rattle.repair.proofs.Refused.{refusedStep}
 use Rattle.repair.proofs.StartLaws.{no-start-marks, nodes-0, accepted-start}
@@ -100,7 +100,7 @@ module _ (s : Session) (nodes : List ℕ) where
           (record { marks = length-set (s .live) j true ∙ f .marks; starts = z .starts; size = z .size })
       go false e = rw e f
 
-  pub fits-call : Fits s nodes → (move : Move) → Fits (sessionAfter s nodes move) (nodesAfter s nodes move)
+  pub fits-call : Fits s nodes → (move : Move) → Fits (called s nodes move .session) (called s nodes move .nodes)
   fits-call f (step j a b) = fits-stepped f j a b
   fits-call f run = fits-ran f
 
@@ -108,7 +108,7 @@ module _ (s : Session) (nodes : List ℕ) where
   itself : SameCode s s
   itself = record { family = refl; k = refl; len = refl }
 
-  pub same-code : (move : Move) → SameCode s (sessionAfter s nodes move)
+  pub same-code : (move : Move) → SameCode s (called s nodes move .session)
   unfolding stepped ran
   same-code (step j a b) =
       answer-either (stepChecks s nodes j a b) _ (refusedStep s) (λ (r : Stepped). SameCode s (r .session)) (record { family = refl; k = refl; len = refl }) (λ n. itself)

@@ -15,7 +15,7 @@ use Rattle.leftover.proofs.Missing.{missing-is-open}
 use Rattle.leftover.proofs.Count.{one-count}
 use Rattle.repair.specs.declared.Session.{Session}
 use Rattle.repair.specs.Session.{sessionOf}
-use Rattle.repair.specs.Calls.{Call, sessionAfterAll, liveAfter}
+use Rattle.repair.specs.Calls.{called, Call, sessionAfterAll, liveAfter}
 use Rattle.repair.specs.LeftOver.{lastSession, LeftOver, Demand3, SameCount}
 use Rattle.repair.proofs.Accepted.{start-accepted}
 use Rattle.repair.proofs.LeftOverLaws.{Grown, grown-start, grown-ended, is-in, leftOf, left-open, left-same}
@@ -29,7 +29,7 @@ module _ (family k L : ℕ) (list : List ℕ) (start : FromStart family k L list
   after calls = liveAfter family k L list calls
 
   pub session-is : (calls : List Call) → lastSession family k L list calls ≡ sessionOf family k L (after calls)
-  session-is calls = ap (λ (s : Session). sessionAfterAll s calls) (start .session) ∙ calls-session family k L calls list
+  session-is calls = ap (λ (s : Session). sessionAfterAll called s calls) (start .session) ∙ calls-session family k L calls list
 
   first : Grown f k list list
   first = grown-start f k list (start .range) (start .nodes)

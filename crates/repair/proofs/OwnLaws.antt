@@ -42,7 +42,7 @@ use Rattle.repair.specs.Session.{nodeCountOf, noStart, nodesChecks}
 use Rattle.repair.specs.ReadOut.{missingIn, readOutChecks, objectOut}
 use Rattle.repair.specs.Step.{stepChecks, withLive, stepped, nodesStepped}
 use Rattle.repair.specs.Repairs.{planIn, ran, nodesRan}
-use Rattle.repair.specs.Calls.{Move, step, run, sessionAfter, nodesAfter, State, stateAfter}
+use Rattle.repair.specs.Calls.{Move, step, run, State, called, stateAfter}
 use Rattle.repair.specs.RepairClaims.{LiveAreOwn}
 use Rattle.repair.proofs.StartLaws.{Known, known, Sized, sized}
 use Rattle.repair.proofs.StepLaws.{AcceptedStep, accepted-step, step-accepted}
@@ -116,12 +116,12 @@ abbrev asMove : Step → Move
 asMove made = step (made .node) (made .smaller) (made .larger)
 
 steps-held : (s : Session) (nodes : List ℕ) (steps : List Step) → Sized s (length nodes) → CanMakeAll (familyOf (s .family)) (s .k) (s .live) steps
-    → stateAfter s nodes (map asMove steps) ≡ record { session = withLive s (repairedNodes steps); nodes = nodesMade (s .len) nodes steps }
+    → stateAfter called s nodes (map asMove steps) ≡ record { session = withLive s (repairedNodes steps); nodes = nodesMade (s .len) nodes steps }
 unfolding stateAfter nodesMade setLive
 steps-held s nodes [] z a = refl
 steps-held s nodes (x ∷ steps) z a =
     let w : AcceptedStep s nodes x = record { buffer = z; makes = a .0 } in
-    ap₂ (λ (t : Session) (b : List ℕ). stateAfter t b (map asMove steps)) (session-stepped s nodes x w) (nodes-stepped s nodes x w)
+    ap₂ (λ (t : Session) (b : List ℕ). stateAfter called t b (map asMove steps)) (session-stepped s nodes x w) (nodes-stepped s nodes x w)
     ∙ steps-held (sessionWith s x) (nodesWith s nodes x) steps (sized-stepped s nodes x w) (a .1)
 
 -- the session and the buffer after them are again such as an operation accepts
@@ -204,7 +204,7 @@ module _ (s : Session) (nodes : List ℕ) (e : firstMet (nodesChecks s (length n
         → blockOf (s .len) (nodesRan s nodes) j ≡ blockOf (s .len) nodes j
     run-keeps-live j n l = run-keeps j n (live-apart (familyOf (s .family)) (s .k) (s .live) (planIn s) (plan-makes size) j l)
 
-  pub run-steps : length (s .live) ≡ 256 → stateAfter s nodes (map asMove (planIn s)) ≡ record { session = ran s nodes .session; nodes = nodesRan s nodes }
+  pub run-steps : length (s .live) ≡ 256 → stateAfter called s nodes (map asMove (planIn s)) ≡ record { session = ran s nodes .session; nodes = nodesRan s nodes }
   run-steps size =
       steps-held s nodes (planIn s) run-sized (plan-makes size)
       ∙ rw (session-ran, nodes-ran)
@@ -275,7 +275,7 @@ module _ (object : List ℕ) where
     pub size : length object ≡ s .k * s .len
     pub live : LiveAreOwn object s nodes
 
-  abbrev pub OwnHeld : State → Type 0
+  abbrev pub OwnHeld : State Session → Type 0
   OwnHeld held = Own (held .session) (held .nodes)
 
   own-made : (s : Session) (nodes : List ℕ) (made : Step) → AcceptedStep s nodes made → Own s nodes
@@ -312,10 +312,10 @@ module _ (object : List ℕ) where
       go true e = let w = accepted-step s nodes made (eqb-true _ 0 e) in rw (session-stepped s nodes made w, nodes-stepped s nodes made w) (own-made s nodes made w o)
       go false e = rw e o
 
-  own-steps : (s : Session) (nodes : List ℕ) (steps : List Step) → Own s nodes → OwnHeld (stateAfter s nodes (map asMove steps))
+  own-steps : (s : Session) (nodes : List ℕ) (steps : List Step) → Own s nodes → OwnHeld (stateAfter called s nodes (map asMove steps))
   unfolding stateAfter
   own-steps s nodes [] o = o
-  own-steps s nodes (x ∷ steps) o = own-steps (sessionAfter s nodes (asMove x)) (nodesAfter s nodes (asMove x)) steps (own-step s nodes (x .node) (x .smaller) (x .larger) o)
+  own-steps s nodes (x ∷ steps) o = own-steps (called s nodes (asMove x) .session) (called s nodes (asMove x) .nodes) steps (own-step s nodes (x .node) (x .smaller) (x .larger) o)
 
   own-run : (s : Session) (nodes : List ℕ) → Own s nodes → Own (ran s nodes .session) (nodesRan s nodes)
   unfolding ran nodesRan
@@ -325,12 +325,12 @@ module _ (object : List ℕ) where
       go true e = subst OwnHeld (run-steps s nodes (eqb-true _ 0 e) (o .marks)) (own-steps s nodes (planIn s) o)
       go false e = rw e o
 
-  pub own-moves : (s : Session) (nodes : List ℕ) (moves : List Move) → Own s nodes → OwnHeld (stateAfter s nodes moves)
+  pub own-moves : (s : Session) (nodes : List ℕ) (moves : List Move) → Own s nodes → OwnHeld (stateAfter called s nodes moves)
   unfolding stateAfter
   own-moves s nodes [] o = o
   own-moves s nodes (step j a b ∷ moves) o =
-      own-moves (sessionAfter s nodes (step j a b)) (nodesAfter s nodes (step j a b)) moves (own-step s nodes j a b o)
-  own-moves s nodes (run ∷ moves) o = own-moves (sessionAfter s nodes run) (nodesAfter s nodes run) moves (own-run s nodes o)
+      own-moves (called s nodes (step j a b) .session) (called s nodes (step j a b) .nodes) moves (own-step s nodes j a b o)
+  own-moves s nodes (run ∷ moves) o = own-moves (called s nodes run .session) (called s nodes run .nodes) moves (own-run s nodes o)
 
   -- where read out is accepted, every data block's node is live, so the buffer's data blocks are those of the encoded object
   pub own-out : (s : Session) (nodes result : List ℕ) → Own s nodes → firstMet (readOutChecks s nodes result) ≡ 0 → objectOut s nodes result ≡ object

@@ -16,7 +16,7 @@ use Rattle.repair.specs.declared.Session.{Session}
 use Rattle.repair.specs.Session.{nodeCountOf, nodesChecks}
 use Rattle.repair.specs.Step.{stepped}
 use Rattle.repair.specs.Repairs.{planIn, planned, outPlanned, ran}
-use Rattle.repair.specs.Calls.{step, run, stateAfter}
+use Rattle.repair.specs.Calls.{step, run, called, stateAfter}
 use Rattle.repair.specs.RepairClaims.{StepClaim, StaysClaim, LiveStaysClaim, PlanWritesClaim, RunClaims, RunClaim, OwnClaim}
 use Rattle.repair.proofs.Accepted.{read-out-accepted, step-passed, plan-accepted, run-accepted}
 use Rattle.repair.proofs.StartLaws.{nodes-0}
@@ -77,6 +77,6 @@ run-claim = run-claims
 
 pub own-claim : OwnClaim
 own-claim object s nodes marks size live moves =
-    let held = stateAfter s nodes moves in
+    let held = stateAfter called s nodes moves in
     let o : OwnHeld object held = own-moves object s nodes moves (record { marks = marks; size = size; live = live }) in
     record { live = o .live; out = λ result e. own-out object (held .session) (held .nodes) result o (read-out-accepted (held .session) (held .nodes) result e) }

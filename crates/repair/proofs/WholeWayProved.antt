@@ -34,7 +34,7 @@ use Rattle.repair.specs.Session.{sessionWith, sessionOf, started, nodeCo
 use Rattle.repair.specs.Boxed.{checkedBox, readChecks, readBox, nodesRead, listed, writeChecks, written}
 use Rattle.repair.specs.ReadOut.{missingIn, readOut, objectOut}
 use Rattle.repair.specs.Repairs.{ran, nodesRan}
-use Rattle.repair.specs.Calls.{Move, run, sessionAfter, nodesAfter, Call, sessionAfterAll, liveAfter, State, stateAfter}
+use Rattle.repair.specs.Calls.{Move, run, State, called, Call, sessionAfterAll, liveAfter, stateAfter}
 use Rattle.repair.specs.LeftOver.{lastSession, LeftOver}
 use Rattle.repair.specs.Claims.{boxWritten}
 use Rattle.repair.specs.RepairClaims.{LiveAreOwn, OwnClaims}
@@ -130,10 +130,10 @@ own-box-claim = record { encode = own-encode; write = own-write; read = own-read
 -- ---- the nodes missing after a run
 
 -- calls, and one more
-one-more : (s : Session) (calls : List Call) (call : Call) → sessionAfterAll s (calls ++ (call ∷ [])) ≡ sessionAfter (sessionAfterAll s calls) (call .nodes) (call .move)
+one-more : (s : Session) (calls : List Call) (call : Call) → sessionAfterAll called s (calls ++ (call ∷ [])) ≡ called (sessionAfterAll called s calls) (call .nodes) (call .move) .session
 unfolding sessionAfterAll
 one-more s [] call = refl
-one-more s (x ∷ calls) call = one-more (sessionAfter s (x .nodes) (x .move)) calls call
+one-more s (x ∷ calls) call = one-more (called s (x .nodes) (x .move) .session) calls call
 
 module _ (family k L : ℕ) (list : List ℕ) (h : started family k L list .refusal ≡ 0) (calls : List Call) (nodes : List ℕ)
     (e : ran (lastSession family k L list calls) nodes .refusal ≡ 0) where
@@ -297,28 +297,28 @@ out-after-run-claim family k L list h calls nodes e other result size room M som
 -- ---- the whole way
 
 -- session and buffer after calls
-held-fits : (s : Session) (nodes : List ℕ) (moves : List Move) → Fits s nodes → Fits (stateAfter s nodes moves .session) (stateAfter s nodes moves .nodes)
+held-fits : (s : Session) (nodes : List ℕ) (moves : List Move) → Fits s nodes → Fits (stateAfter called s nodes moves .session) (stateAfter called s nodes moves .nodes)
 unfolding stateAfter
 held-fits s nodes [] f = f
-held-fits s nodes (move ∷ moves) f = held-fits (sessionAfter s nodes move) (nodesAfter s nodes move) moves (fits-call s nodes f move)
+held-fits s nodes (move ∷ moves) f = held-fits (called s nodes move .session) (called s nodes move .nodes) moves (fits-call s nodes f move)
 
 -- one more run
 held-more : (s : Session) (nodes : List ℕ) (moves : List Move)
-    → stateAfter s nodes (moves ++ (run ∷ []))
-    ≡ record { session = ran (stateAfter s nodes moves .session) (stateAfter s nodes moves .nodes) .session; nodes = nodesRan (stateAfter s nodes moves .session) (stateAfter s nodes moves .nodes) }
+    → stateAfter called s nodes (moves ++ (run ∷ []))
+    ≡ record { session = ran (stateAfter called s nodes moves .session) (stateAfter called s nodes moves .nodes) .session; nodes = nodesRan (stateAfter called s nodes moves .session) (stateAfter called s nodes moves .nodes) }
 unfolding stateAfter
 held-more s nodes [] = refl
-held-more s nodes (move ∷ moves) = held-more (sessionAfter s nodes move) (nodesAfter s nodes move) moves
+held-more s nodes (move ∷ moves) = held-more (called s nodes move .session) (called s nodes move .nodes) moves
 
 -- the calls on one buffer, each with the buffer as it gets it
 callsOn : Session → List ℕ → List Move → List Call
 callsOn s nodes [] = []
-callsOn s nodes (move ∷ moves) = record { nodes = nodes; move = move } ∷ callsOn (sessionAfter s nodes move) (nodesAfter s nodes move) moves
+callsOn s nodes (move ∷ moves) = record { nodes = nodes; move = move } ∷ callsOn (called s nodes move .session) (called s nodes move .nodes) moves
 
-held-calls : (s : Session) (nodes : List ℕ) (moves : List Move) → stateAfter s nodes moves .session ≡ sessionAfterAll s (callsOn s nodes moves)
+held-calls : (s : Session) (nodes : List ℕ) (moves : List Move) → stateAfter called s nodes moves .session ≡ sessionAfterAll called s (callsOn s nodes moves)
 unfolding stateAfter sessionAfterAll callsOn
 held-calls s nodes [] = refl
-held-calls s nodes (move ∷ moves) = held-calls (sessionAfter s nodes move) (nodesAfter s nodes move) moves
+held-calls s nodes (move ∷ moves) = held-calls (called s nodes move .session) (called s nodes move .nodes) moves
 
 -- a box that is read, calls, and a run: the box's session is that of a start with its node numbers
 module _ (bytes nodes : List ℕ) (e : firstMet (readChecks bytes nodes) ≡ 0) where
@@ -337,14 +337,14 @@ module _ (bytes nodes : List ℕ) (e : firstMet (readChecks bytes nodes) ≡ 0) 
       session-read bytes nodes e ∙ ap (λ (r : Started). r .session) (sym (c .is) ∙ c .start)
 
   module _ (moves : List Move) where
-    abbrev held : State
-    held = stateAfter (readBox bytes nodes .session) (nodesRead bytes nodes) moves
+    abbrev held : State Session
+    held = stateAfter called (readBox bytes nodes .session) (nodesRead bytes nodes) moves
 
     abbrev calls : List Call
     calls = callsOn (readBox bytes nodes .session) (nodesRead bytes nodes) moves
 
     held-is : held .session ≡ lastSession (familyIn bytes) (kIn bytes) (blockLengthIn bytes) (namesIn bytes) calls
-    held-is = held-calls (readBox bytes nodes .session) (nodesRead bytes nodes) moves ∙ ap (λ (s : Session). sessionAfterAll s calls) session-from
+    held-is = held-calls (readBox bytes nodes .session) (nodesRead bytes nodes) moves ∙ ap (λ (s : Session). sessionAfterAll called s calls) session-from
 
     fits : Fits (held .session) (held .nodes)
     fits = held-fits (readBox bytes nodes .session) (nodesRead bytes nodes) moves (read-fits bytes nodes e)
@@ -421,6 +421,6 @@ whole-way-claim way on moves =
       out = λ result h. own way on moves .out result h;
       runs = read-runs (boxAway way) (way .other) (read-accepted (boxAway way) (way .other) (on .read)) moves;
       back = back way on moves;
-      again = subst (λ (h : State). (result : List ℕ) → readOut (h .session) (h .nodes) result .refusal ≡ 0 → objectOut (h .session) (h .nodes) result ≡ way .object)
+      again = subst (λ (h : State Session). (result : List ℕ) → readOut (h .session) (h .nodes) result .refusal ≡ 0 → objectOut (h .session) (h .nodes) result ≡ way .object)
           (held-more (readBox (boxAway way) (way .other) .session) (nodesRead (boxAway way) (way .other)) moves) (own way on (moves ++ (run ∷ [])) .out);
     }

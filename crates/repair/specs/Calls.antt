@@ -14,15 +14,15 @@ pub data Move : Type 0 where
   step : ℕ → ℕ → ℕ → Move
   run : Move
 
--- the session that a call on a nodes buffer gives back, as the contracts of step and run have it
-abbrev pub sessionAfter : Session → List ℕ → Move → Session
-sessionAfter s nodes (step j a b) = stepped s nodes j a b .session
-sessionAfter s nodes run = ran s nodes .session
+-- a session, in the library's form or in C's, and its nodes buffer
+pub record State (S : Type 0) : Type 0 where
+  pub session : S
+  pub nodes : List ℕ
 
--- the nodes buffer after a call, likewise
-abbrev pub nodesAfter : Session → List ℕ → Move → List ℕ
-nodesAfter s nodes (step j a b) = nodesStepped s nodes j a b
-nodesAfter s nodes run = nodesRan s nodes
+-- a call on a nodes buffer, as the contracts of step and run have it: the session that it gives back, and the buffer after it
+abbrev pub called : Session → List ℕ → Move → State Session
+called s nodes (step j a b) = record { session = stepped s nodes j a b .session; nodes = nodesStepped s nodes j a b }
+called s nodes run = record { session = ran s nodes .session; nodes = nodesRan s nodes }
 
 -- ---- each call with its own nodes buffer
 
@@ -31,10 +31,10 @@ pub record Call : Type 0 where
   pub nodes : List ℕ
   pub move : Move
 
--- the session after a list of calls
-unfoldable pub sessionAfterAll : Session → List Call → Session
-sessionAfterAll s [] = s
-sessionAfterAll s (call ∷ calls) = sessionAfterAll (sessionAfter s (call .nodes) (call .move)) calls
+-- the session after a list of calls; `one` says what one call gives back and leaves, as `called` does
+unfoldable pub sessionAfterAll : {S : Type 0} → (S → List ℕ → Move → State S) → S → List Call → S
+sessionAfterAll one s [] = s
+sessionAfterAll one s (call ∷ calls) = sessionAfterAll one (one s (call .nodes) (call .move) .session) calls
 
 -- the nodes that a call adds: none where it is turned away, else the node that the step repairs, or those that the plan repairs
 abbrev pub addedBy : Session → List ℕ → Move → List ℕ
@@ -49,12 +49,7 @@ liveAfter family k L live (call ∷ calls) =
 
 -- ---- one nodes buffer, handed from call to call
 
--- a session and its nodes buffer
-pub record State : Type 0 where
-  pub session : Session
-  pub nodes : List ℕ
-
--- both after a list of steps and runs
-unfoldable pub stateAfter : Session → List ℕ → List Move → State
-stateAfter s nodes [] = record { session = s; nodes = nodes }
-stateAfter s nodes (move ∷ moves) = stateAfter (sessionAfter s nodes move) (nodesAfter s nodes move) moves
+-- session and buffer after a list of steps and runs, `one` likewise
+unfoldable pub stateAfter : {S : Type 0} → (S → List ℕ → Move → State S) → S → List ℕ → List Move → State S
+stateAfter one s nodes [] = record { session = s; nodes = nodes }
+stateAfter one s nodes (move ∷ moves) = stateAfter one (one s nodes move .session) (one s nodes move .nodes) moves

@@ -11,11 +11,11 @@ use Rattle.leftover.specs.Open.{Open, OpenCount}
 use Rattle.repair.specs.declared.Session.{Session}
 use Rattle.repair.specs.Session.{started}
 use Rattle.repair.specs.Repairs.{planned, ran}
-use Rattle.repair.specs.Calls.{Call, run, sessionAfterAll, liveAfter}
+use Rattle.repair.specs.Calls.{run, called, Call, sessionAfterAll, liveAfter}
 
 -- the session after a start and a list of calls
 abbrev pub lastSession : ℕ → ℕ → ℕ → List ℕ → List Call → Session
-lastSession family k L list calls = sessionAfterAll (started family k L list .session) calls
+lastSession family k L list calls = sessionAfterAll called (started family k L list .session) calls
 
 -- of a start's family, k, L and list, a list of calls, and objects with blocks of M bytes
 pub record LeftOver (family k L : ℕ) (list : List ℕ) (calls : List Call) (M : ℕ) : Type 0 where

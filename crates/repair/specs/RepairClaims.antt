@@ -20,7 +20,7 @@ use Rattle.repair.specs.Boxed.{writtenLength, written}
 use Rattle.repair.specs.Step.{stepped, nodesStepped}
 use Rattle.repair.specs.Repairs.{planIn, planned, outPlanned, ran, nodesRan}
 use Rattle.repair.specs.ReadOut.{missingIn, readOut, objectOut}
-use Rattle.repair.specs.Calls.{Move, step, sessionAfter, stateAfter}
+use Rattle.repair.specs.Calls.{Move, step, run, called, stateAfter}
 
 -- ---- step
 
@@ -62,11 +62,11 @@ AcceptsClaim = (s : Session) → Accepts s
 -- a session that some start gives is handed back as one, by a step and by a run, refused or not
 abbrev pub StaysClaim : Type 0
 StaysClaim = (s : Session) → length (s .live) ≡ 256 → noStart s ≡ false
-    → (nodes : List ℕ) (move : Move) → noStart (sessionAfter s nodes move) ≡ false
+    → (nodes : List ℕ) (move : Move) → noStart (called s nodes move .session) ≡ false
 
 -- a live node stays live
 abbrev pub LiveStaysClaim : Type 0
-LiveStaysClaim = (s : Session) (nodes : List ℕ) (move : Move) (j : ℕ) → isLive (s .live) j ≡ true → isLive (sessionAfter s nodes move .live) j ≡ true
+LiveStaysClaim = (s : Session) (nodes : List ℕ) (move : Move) (j : ℕ) → isLive (s .live) j ≡ true → isLive (called s nodes move .session .live) j ≡ true
 
 -- ---- plan and run
 
@@ -82,8 +82,7 @@ pub record RunAgain (s : Session) (nodes other : List ℕ) : Type 0 where
 -- of a run
 pub record RunClaims (s : Session) (nodes : List ℕ) : Type 0 where
   -- it is the plan's steps made one after the other
-  pub steps : stateAfter s nodes (map (λ (made : Step). step (made .node) (made .smaller) (made .larger)) (planIn s))
-      ≡ record { session = ran s nodes .session; nodes = nodesRan s nodes }
+  pub steps : stateAfter called s nodes (map (λ (made : Step). step (made .node) (made .smaller) (made .larger)) (planIn s)) ≡ called s nodes run
   -- after it no missing node has a related pair with both nodes live
   pub ends : NoPairLeft (familyOf (s .family)) (s .k) (isLive (ran s nodes .session .live))
   -- places of nodes left keep their bytes, and so do those of nodes that were live before it
@@ -109,9 +108,9 @@ LiveAreOwn object s nodes =
 -- once session and buffer have gone through a list of steps and runs, every live block is the object's, and what is read out,
 -- where that is accepted, is the object
 pub record OwnClaims (object : List ℕ) (s : Session) (nodes : List ℕ) (moves : List Move) : Type 0 where
-  pub live : LiveAreOwn object (stateAfter s nodes moves .session) (stateAfter s nodes moves .nodes)
-  pub out : (result : List ℕ) → readOut (stateAfter s nodes moves .session) (stateAfter s nodes moves .nodes) result .refusal ≡ 0
-      → objectOut (stateAfter s nodes moves .session) (stateAfter s nodes moves .nodes) result ≡ object
+  pub live : LiveAreOwn object (stateAfter called s nodes moves .session) (stateAfter called s nodes moves .nodes)
+  pub out : (result : List ℕ) → readOut (stateAfter called s nodes moves .session) (stateAfter called s nodes moves .nodes) result .refusal ≡ 0
+      → objectOut (stateAfter called s nodes moves .session) (stateAfter called s nodes moves .nodes) result ≡ object
 
 abbrev pub OwnClaim : Type 0
 OwnClaim = (object : List ℕ) (s : Session) (nodes : List ℕ) → length (s .live) ≡ 256 → length object ≡ s .k * s .len → LiveAreOwn object s nodes

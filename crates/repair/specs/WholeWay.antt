@@ -19,7 +19,7 @@ use Rattle.repair.specs.Session.{started, nodeCountOf, noStart}
 use Rattle.repair.specs.Boxed.{checkedBox, readBox, nodesRead, written}
 use Rattle.repair.specs.ReadOut.{readOut, objectOut}
 use Rattle.repair.specs.Repairs.{ran, nodesRan}
-use Rattle.repair.specs.Calls.{Move, sessionAfter, nodesAfter, Call, State, stateAfter}
+use Rattle.repair.specs.Calls.{Move, State, called, Call, stateAfter}
 use Rattle.repair.specs.LeftOver.{lastSession}
 use Rattle.repair.specs.Claims.{boxWritten}
 use Rattle.repair.specs.RepairClaims.{LiveAreOwn}
@@ -48,8 +48,8 @@ pub record FitsClaim : Type 0 where
   -- which fits what an accepted read leaves
   pub read-fits : (bytes nodes : List ℕ) → readBox bytes nodes .refusal ≡ 0 → Fits (readBox bytes nodes .session) (nodesRead bytes nodes)
   -- a step or run, refused or not, gives back a session that fits the buffer that it leaves, of the same family, k and L
-  pub call : (s : Session) (nodes : List ℕ) → Fits s nodes → (move : Move) → Fits (sessionAfter s nodes move) (nodesAfter s nodes move)
-  pub same : (s : Session) (nodes : List ℕ) (move : Move) → SameCode s (sessionAfter s nodes move)
+  pub call : (s : Session) (nodes : List ℕ) → Fits s nodes → (move : Move) → Fits (called s nodes move .session) (called s nodes move .nodes)
+  pub same : (s : Session) (nodes : List ℕ) (move : Move) → SameCode s (called s nodes move .session)
   -- a run is accepted, and so is a write of every live node where there is room for all n
   pub run : (s : Session) (nodes : List ℕ) → Fits s nodes → ran s nodes .refusal ≡ 0
   pub write : (s : Session) (nodes out : List ℕ) → Fits s nodes → boxLength (nodeCountOf s) (s .len) ≤ length out → written s nodes [] out .refusal ≡ 0
@@ -150,8 +150,8 @@ abbrev pub boxAway : Way → List ℕ
 boxAway way = boxWritten (startOf way .session) (nodesEncoded way) (way .list) (way .out)
 
 -- session and buffer once the box is read and a list of steps and runs made, refused ones included
-abbrev pub stateAt : Way → List Move → State
-stateAt way moves = stateAfter (readBox (boxAway way) (way .other) .session) (nodesRead (boxAway way) (way .other)) moves
+abbrev pub stateAt : Way → List Move → State Session
+stateAt way moves = stateAfter called (readBox (boxAway way) (way .other) .session) (nodesRead (boxAway way) (way .other)) moves
 
 -- encode, start, write and read are accepted
 pub record OnTheWay (way : Way) : Type 0 where
