@@ -1,7 +1,7 @@
 -- The lines of a plan's steps, as far as they are put.
 -- Assumes nothing.
 use mathlib.Core.Path.{_≡_, refl, sym}
-use mathlib.Core.List.{List, [], _∷_, _++_, append-assoc, append-nil}
+use mathlib.Core.List.{List, [], _∷_, _++_, append-nil, flatMap}
 use Prim.Native.Nat.{ℕ, zero, suc, _+_, _*_, _≤_, _<_}
 use native.Mathlib.Numerals.{add-one}
 use native.Mathlib.Omega.{arith}
@@ -9,10 +9,11 @@ use lib.ListN.{length, getD, drop, take-append-drop}
 use lib.Seq.{getD-drop}
 use mir.Syntax.{w8}
 use mir.Val.{Fits}
+use Rattle.base.proofs.FlatMap.{flatMap-append}
 use Rattle.planning.specs.Plan.{Step}
 use Rattle.planning.specs.Made.{stepsIn}
 use Rattle.listing.specs.Inner.{Put}
-use Rattle.listing.specs.Text.{stepLine, stepLines}
+use Rattle.listing.specs.Text.{stepLine}
 use Rattle.listing.proofs.TextLaws.{step-line-most}
 use Rattle.listing.proofs.PutLaws.{kept, then}
 
@@ -28,14 +29,9 @@ one-more bytes (suc i) =
     let f : getD (drop 4 bytes) (4 * i) 0 ≡ getD bytes (4 * suc i) 0 = let e : 4 + 4 * i ≡ 4 * suc i = omega arith in rw (getD-drop, e) in
     rw (one-more (drop 4 bytes) i, f, g 1, g 2, g 3)
 
-lines-append : (s t : List Step) → stepLines (s ++ t) ≡ stepLines s ++ stepLines t
-unfolding stepLines
-lines-append [] t = refl
-lines-append (step ∷ s) t = rw (lines-append s t, append-assoc (stepLine step) (stepLines s) (stepLines t))
-
-lines-more : (bytes : List ℕ) (i : ℕ) → stepLines (stepsIn bytes i) ++ stepLine (stepAt bytes i) ≡ stepLines (stepsIn bytes (i + 1))
-unfolding stepLines
-lines-more bytes i = rw (add-one i, one-more bytes i, lines-append (stepsIn bytes i) (stepAt bytes i ∷ []), append-nil)
+lines-more : (bytes : List ℕ) (i : ℕ) → flatMap stepLine (stepsIn bytes i) ++ stepLine (stepAt bytes i) ≡ flatMap stepLine (stepsIn bytes (i + 1))
+unfolding flatMap
+lines-more bytes i = rw (add-one i, one-more bytes i, flatMap-append stepLine (stepsIn bytes i) (stepAt bytes i ∷ []), append-nil)
 
 -- a step of bytes has a line of at most 16 bytes
 step-short : (bytes : List ℕ) (i : ℕ) → ((j : ℕ) → Fits w8 (getD bytes j 0)) → length (stepLine (stepAt bytes i)) ≤ 16
@@ -47,10 +43,10 @@ step-short bytes i h =
 pub record Lined (bytes : List ℕ) (count : ℕ) (start : List ℕ) (at : ℕ) (out : List ℕ) (next i : ℕ) : Type 0 where
   pub within : i ≤ count
   pub short : next ≤ at + 16 * i
-  pub done : Put start at (stepLines (stepsIn bytes i)) out next
+  pub done : Put start at (flatMap stepLine (stepsIn bytes i)) out next
 
 pub lined-none : {bytes start : List ℕ} {count at : ℕ} → at ≤ length start → Lined bytes count start at start at 0
-unfolding stepLines stepsIn
+unfolding flatMap stepsIn
 lined-none {bytes} {start} {count} {at} h =
     record {
       within = omega arith;
@@ -71,7 +67,7 @@ module _ {bytes : List ℕ} {count : ℕ} {start : List ℕ} {at : ℕ} {out : L
           done = rw (lines-more bytes i) at (then (w .done) p);
         }
 
-  pub lined-done : count ≤ i → Put start at (stepLines (stepsIn bytes count)) out next × (next ≤ at + 16 * count)
+  pub lined-done : count ≤ i → Put start at (flatMap stepLine (stepsIn bytes count)) out next × (next ≤ at + 16 * count)
   lined-done l =
       let e : i ≡ count = omega (arith, w .within) in
       rw (← e) (w .done, w .short)

@@ -1,7 +1,7 @@
 -- What the programs print of an input that is turned away, and what the lister prints (document 01, "Two programs").
 use Prim.Native.Nat.{ℕ}
 use mathlib.Core.Bool.{cond}
-use mathlib.Core.List.{List, _++_}
+use mathlib.Core.List.{List, _++_, flatMap}
 use lib.Dec.{eqb, ltb}
 use lib.ListN.{length}
 use Rattle.lists.specs.Lists.{liveNodes}
@@ -9,7 +9,7 @@ use Rattle.repair.specs.declared.Session.{Session}
 use Rattle.repair.specs.Session.{nodeCountOf}
 use Rattle.repair.specs.Boxed.{checkedBox}
 use Rattle.repair.specs.Repairs.{planIn, repairsOf}
-use Rattle.listing.specs.Text.{firstLine, stepLines, lastLine, refusalLine, tooLongLine}
+use Rattle.listing.specs.Text.{firstLine, stepLine, lastLine, refusalLine, tooLongLine}
 
 -- the most bytes that an input may have, and a box that is written
 abbrev pub mostBytes : ℕ
@@ -26,7 +26,7 @@ answerOf input text =
 unfoldable pub listingIn : Session → List ℕ
 listingIn s =
     firstLine (s .family) (s .k) (s .len) (length (liveNodes (s .live) (nodeCountOf s)))
-    ++ (stepLines (planIn s)
+    ++ (flatMap stepLine (planIn s)
     ++ lastLine (repairsOf s s .steps) (repairsOf s s .rounds) (repairsOf s s .left))
 
 -- what the lister prints

@@ -37,11 +37,6 @@ firstLine family k L live = field (ascii "family ") family ++ (field (ascii " k 
 unfoldable pub stepLine : Step → List ℕ
 stepLine step = field [] (step .round) ++ (field (ascii " ") (step .node) ++ (field (ascii " ") (step .smaller) ++ (field (ascii " ") (step .larger) ++ newline)))
 
--- a line for each step
-unfoldable pub stepLines : List Step → List ℕ
-stepLines [] = []
-stepLines (step ∷ steps) = stepLine step ++ stepLines steps
-
 -- `steps 4 rounds 2 left 0`
 unfoldable pub lastLine : ℕ → ℕ → ℕ → List ℕ
 lastLine steps rounds left = field (ascii "steps ") steps ++ (field (ascii " rounds ") rounds ++ (field (ascii " left ") left ++ newline))

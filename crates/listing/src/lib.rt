@@ -11,13 +11,13 @@ use crate::text::put;
 use repair::Session;
 ghost use mathlib.Core.Path.{_≡_};
 ghost use mathlib.Core.Bool.{false};
-ghost use mathlib.Core.List.{[], _++_};
+ghost use mathlib.Core.List.{[], _++_, flatMap};
 ghost use Prim.Native.Nat.{_+_, _≤_};
 ghost use lib.ListN.{length, drop, replicate};
 ghost use Rattle.repair.specs.Session.{noStart};
 ghost use Rattle.repair.specs.Repairs.{planIn, repairsOf};
 ghost use Rattle.listing.specs.Inner.{Put};
-ghost use Rattle.listing.specs.Text.{stepLines, lastLine, tooLongLine};
+ghost use Rattle.listing.specs.Text.{stepLine, lastLine, tooLongLine};
 ghost use Rattle.listing.specs.Listing.{answerOf, listingIn, listingOf};
 
 // The most bytes that an input may have, and a box that is written.
@@ -62,7 +62,7 @@ pub fn turned_away(input: &[u8], out: &mut [u8]) -> usize
 fn put_plan(session: Session, out: &mut [u8], at: usize) -> usize
     requires { ⌜ noStart session ≡ false ⌝ }
     requires { ⌜ at + 4161 ≤ length (now out) ⌝ }
-    ensures { λ r. ⌜ Put (now (out .entry)) at (stepLines (planIn session) ++ lastLine (repairsOf session session .steps) (repairsOf session session .rounds) (repairsOf session session .left)) (now (out .exit)) r ⌝ }
+    ensures { λ r. ⌜ Put (now (out .entry)) at (flatMap stepLine (planIn session) ++ lastLine (repairsOf session session .steps) (repairsOf session session .rounds) (repairsOf session session .left)) (now (out .exit)) r ⌝ }
 {
     let mut steps = repair::plan_room();
     let made = session.plan(&mut steps);

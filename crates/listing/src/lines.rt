@@ -4,12 +4,12 @@ use crate::text::put_fields;
 use crate::text::put_last_field;
 use crate::text::put_last_fields;
 ghost use mathlib.Core.Path.{_≡_};
-ghost use mathlib.Core.List.{_++_};
+ghost use mathlib.Core.List.{_++_, flatMap};
 ghost use Prim.Native.Nat.{_+_, _*_, _≤_};
 ghost use lib.ListN.{length, drop};
 ghost use Rattle.planning.specs.Made.{stepsIn};
 ghost use Rattle.listing.specs.Inner.{Put};
-ghost use Rattle.listing.specs.Text.{firstLine, stepLine, stepLines, lastLine, refusalLine};
+ghost use Rattle.listing.specs.Text.{firstLine, stepLine, lastLine, refusalLine};
 
 // `family 1 k 3 length 1 live 3`, at the front of `out`.
 pub fn put_first_line(family: usize, k: usize, len: usize, live: usize, out: &mut [u8]) -> usize
@@ -33,7 +33,7 @@ fn put_step_line(round: u8, node: u8, smaller: u8, larger: u8, out: &mut [u8], a
 pub fn put_step_lines(steps: &[u8], count: usize, out: &mut [u8], at: usize) -> usize
     requires { ⌜ 4 * count ≤ length (now steps) ⌝ }
     requires { ⌜ at + 16 * count ≤ length (now out) ⌝ }
-    ensures { λ r. ⌜ Put (now (out .entry)) at (stepLines (stepsIn (now (steps .entry)) count)) (now (out .exit)) r ⌝ }
+    ensures { λ r. ⌜ Put (now (out .entry)) at (flatMap stepLine (stepsIn (now (steps .entry)) count)) (now (out .exit)) r ⌝ }
     ensures { λ r. ⌜ r ≤ at + 16 * count ⌝ }
 {
     let mut next = at;

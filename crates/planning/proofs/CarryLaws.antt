@@ -2,7 +2,7 @@
 -- Assumes nothing.
 use mathlib.Core.Path.{_≡_, refl, sym, ap, _∙_, subst}
 use mathlib.Core.Bool.{Bool, true}
-use mathlib.Core.List.{List, [], _∷_, _++_}
+use mathlib.Core.List.{List, [], _∷_, _++_, flatMap}
 use Prim.Native.Nat.{ℕ, suc, _+_, _-_, _*_, _≤_, _<_}
 use native.Mathlib.Omega.{arith}
 use lib.ListN.{length, getD, drop, set}
@@ -96,7 +96,7 @@ module _ {L : ℕ} {bytes : List ℕ} {count : ℕ} {start nodes : List ℕ} {i 
 
 -- the steps are read back from their bytes
 pub steps-back : (steps : List Step) (t : List ℕ) → stepsIn (stepBytes steps ++ t) (length steps) ≡ steps
-unfolding stepsIn stepBytes
+unfolding stepsIn stepBytes flatMap
 steps-back [] t = refl
 steps-back (x ∷ steps) t = ap (λ (l : List Step). x ∷ l) (steps-back steps t)
 

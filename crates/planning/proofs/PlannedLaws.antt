@@ -2,7 +2,7 @@
 -- Assumes nothing.
 use mathlib.Core.Path.{_≡_, refl, sym, ap, _∙_, subst}
 use mathlib.Core.Bool.{Bool}
-use mathlib.Core.List.{List, [], _∷_, _++_, append-assoc, append-nil, map}
+use mathlib.Core.List.{List, [], _∷_, _++_, append-assoc, append-nil, map, flatMap, getLastD}
 use Prim.Native.Nat.{ℕ, _+_, _-_, _*_, _≤_}
 use native.Mathlib.Nat.{sub-zero, zero-add}
 use native.Mathlib.Numerals.{add-one}
@@ -24,14 +24,14 @@ use Rattle.planning.proofs.RoundLaws.{bytes-append, length-bytes, marks
 -- ---- the last round
 
 last-append : (s : List Step) (x : Step) (t : List Step) → lastRound (s ++ x ∷ t) ≡ lastRound (x ∷ t)
-unfolding lastRound
+unfolding lastRound getLastD
 last-append [] x t = refl
 last-append (y ∷ []) x t = refl
 last-append (y ∷ z ∷ s) x t = last-append (z ∷ s) x t
 
 -- every step of round r has this round
 last-round : (f : Family) (k : ℕ) (marks : List Bool) (r : ℕ) → 1 ≤ length (roundSteps f k marks r) → lastRound (roundSteps f k marks r) ≡ r
-unfolding lastRound
+unfolding lastRound getLastD
 last-round f k marks r = go (thoseFrom (isRepaired f k marks) 1 (nodeCount f k))
   where
     go : (list : List ℕ) → 1 ≤ length (map (stepOf f k marks r) list) → lastRound (map (stepOf f k marks r) list) ≡ r
@@ -61,7 +61,7 @@ pub record Rounds (f : Family) (k : ℕ) (start : List Bool) (before out : List 
   pub bytes : out ≡ putMid 0 (4 * length done) before (stepBytes done)
 
 pub rounds-none : {f : Family} {k : ℕ} {marks : List Bool} {out : List ℕ} → KInRange f k → length marks ≡ 256 → 4 * nodeCount f k ≤ length out → Rounds f k marks out out marks 0 0
-unfolding planOf setLive stepBytes lastRound
+unfolding planOf setLive stepBytes flatMap lastRound getLastD
 rounds-none {f} {k} range size h =
     record {
       range = range;
@@ -141,7 +141,7 @@ module _ {f : Family} {k : ℕ} {start : List Bool} {before out : List ℕ} {mar
 
     pub rounds-bytes : {last : List ℕ} → last ≡ putMid (4 * steps) (4 * length round) out (stepBytes round)
         → last ≡ stepBytes (planOf f k start) ++ drop (4 * length (planOf f k start)) before
-    unfolding stepBytes
+    unfolding stepBytes flatMap
     rounds-bytes g =
         let same : putMid (4 * steps) (4 * length round) out (stepBytes round) ≡ out = rw none (take-append-drop (4 * steps) out) in
         g ∙ same ∙ rw plan-done (w .bytes)

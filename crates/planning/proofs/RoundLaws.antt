@@ -3,7 +3,7 @@
 use mathlib.Core.Path.{_≡_, refl, sym, ap, _∙_}
 use mathlib.Core.Bool.{Bool, true, false, cond, not}
 use mathlib.Core.Logic.{_⊎_, inl, inr}
-use mathlib.Core.List.{List, [], _∷_, _++_, append-assoc, append-nil, map, map-append}
+use mathlib.Core.List.{List, [], _∷_, _++_, append-assoc, append-nil, map, map-append, flatMap}
 use Prim.Native.Nat.{ℕ, zero, suc, _+_, _-_, _*_, _≤_, _<_}
 use native.Mathlib.Nat.{sub-zero, eq-zero-or-pos}
 use native.Mathlib.Omega.{arith}
@@ -12,6 +12,7 @@ use borrow.Rule.Slice.PartMut.{putMid, same-len-mid}
 use lib.Dec.{ltb}
 use lib.ListN.{length, set, length-append, take-append-drop}
 use Rattle.base.specs.Ranges.{thoseFrom}
+use Rattle.base.proofs.FlatMap.{flatMap-append}
 use Rattle.base.proofs.RangeLaws.{those-none, those-first}
 use Rattle.base.proofs.Tests.{and-right}
 use Rattle.blocks.proofs.PartLaws.{length-mid, put-beside}
@@ -31,11 +32,10 @@ use Rattle.planning.proofs.PairLaws.{pair-of, live-kept}
 
 pub bytes-append : (s t : List Step) → stepBytes (s ++ t) ≡ stepBytes s ++ stepBytes t
 unfolding stepBytes
-bytes-append [] t = refl
-bytes-append (x ∷ s) t = ap (λ (l : List ℕ). x .round ∷ x .node ∷ x .smaller ∷ x .larger ∷ l) (bytes-append s t)
+bytes-append s t = flatMap-append _ s t
 
 pub length-bytes : (s : List Step) → length (stepBytes s) ≡ 4 * length s
-unfolding stepBytes
+unfolding stepBytes flatMap
 length-bytes [] = refl
 length-bytes (x ∷ s) = omega (arith, length-bytes s)
 
@@ -124,7 +124,7 @@ pub record InRound (f : Family) (k : ℕ) (marks : List Bool) (r : ℕ) (start :
 
 pub round-none : {f : Family} {k : ℕ} {marks : List Bool} {r : ℕ} {out : List ℕ} {from : ℕ} {next : List Bool}
     → from + 4 * length (roundSteps f k marks r) ≤ length out → InRound f k marks r out from next out next 0 0
-unfolding stepBytes setLive
+unfolding stepBytes flatMap setLive
 round-none {f} {k} {out = out} {from} h =
     record { done = []; split = rw (sub-zero (nodeCount f k)); within = omega arith; count = refl; room = h; kept = refl; bytes = sym (take-append-drop from out); marked = refl }
 
@@ -142,7 +142,7 @@ module _ {f : Family} {k : ℕ} {marks : List Bool} {r : ℕ} {start : List ℕ}
     round-room = omega (arith, w .room, w .kept, total)
 
     pub round-more : InRound f k marks r start from before (putMid (from + 4 * steps) 4 out (r ∷ x .node ∷ x .smaller ∷ x .larger ∷ [])) (set next (x .node) true) (steps + 1) (x .node)
-    unfolding stepBytes setLive
+    unfolding stepBytes flatMap setLive
     round-more =
         let one = asStep f k marks r x ∷ [] in
         let more = w .done ++ one in

@@ -1,6 +1,6 @@
 -- The plan (document 01, "Plan"): rounds from 1, the steps of a round, and what a plan comes to.
 use mathlib.Core.Bool.{Bool, not, _&&_}
-use mathlib.Core.List.{List, [], _∷_, _++_, map}
+use mathlib.Core.List.{List, [], _∷_, _++_, map, flatMap, getLastD}
 use Prim.Native.Nat.{ℕ, zero, suc}
 use lib.Dec.{ltb}
 use Rattle.base.specs.Ranges.{thoseFrom, countFrom}
@@ -49,14 +49,11 @@ planOf f k marks = roundsFrom f k 1 marks (nodeCount f k)
 
 -- four bytes a step: round, node, smaller, larger
 unfoldable pub stepBytes : List Step → List ℕ
-stepBytes [] = []
-stepBytes (step ∷ steps) = step .round ∷ step .node ∷ step .smaller ∷ step .larger ∷ stepBytes steps
+stepBytes steps = flatMap (λ (step : Step). step .round ∷ step .node ∷ step .smaller ∷ step .larger ∷ []) steps
 
 -- rounds: the last step's; 0 where there is none
 unfoldable pub lastRound : List Step → ℕ
-lastRound [] = 0
-lastRound (step ∷ []) = step .round
-lastRound (step ∷ next ∷ steps) = lastRound (next ∷ steps)
+lastRound steps = getLastD (map (λ (step : Step). step .round) steps) 0
 
 -- nodes left: how many of 1 to n are missing
 unfoldable pub nodesLeft : List Bool → ℕ → ℕ

@@ -2,7 +2,7 @@
 -- Assumes nothing.
 use mathlib.Core.Path.{_≡_, refl, sym, ap₂, _∙_, subst}
 use mathlib.Core.Bool.{Bool, true, false, cond, _||_, false≢true}
-use mathlib.Core.List.{List, [], _∷_, map}
+use mathlib.Core.List.{List, [], _∷_, map, getLastD}
 use Prim.Native.Nat.{ℕ, zero, suc, _+_, _-_, _*_, _≤_, _<_}
 use native.Mathlib.Decide.{ℕ-discrete}
 use native.Mathlib.Omega.{arith}
@@ -222,7 +222,7 @@ module _ (s : Session) (nodes : List ℕ) (e : firstMet (nodesChecks s (length n
   no-plan = no-steps (familyOf (s .family)) (s .k) (s .live) (planIn s) (plan-makes s nodes e size) done
 
   pub quiet-answer : ran s nodes ≡ record { refusal = 0; steps = 0; rounds = 0; left = nodesLeft (s .live) (nodeCountOf s); session = s }
-  unfolding ran setLive lastRound
+  unfolding ran setLive lastRound getLastD
   quiet-answer = rw (e, no-plan)
 
   pub quiet-nodes : nodesRan s nodes ≡ nodes

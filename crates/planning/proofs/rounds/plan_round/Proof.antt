@@ -2,6 +2,7 @@
 -- by stands in the invariant.
 -- Assumes nothing.
 use mathlib.Core.Path.{_≡_, refl, sym, _∙_}
+use mathlib.Core.List.{flatMap}
 use Prim.Native.Nat.{_+_, _-_, _*_, _≤_}
 use native.Mathlib.Nat.{add-sub-cancel-left}
 use native.Mathlib.Omega.{arith}
@@ -38,7 +39,7 @@ count-live-requires c κs = let n : Place tie.After-node-count = search in omega
 
 -- where every node is live the round has no steps
 returns : tie.Need-returns Inv-loop μ-loop
-unfolding stepBytes setLive
+unfolding stepBytes flatMap setLive
 returns c =
     let e : Place tie.Start = search in
     let n : Place tie.After-node-count = search in
