@@ -17,8 +17,7 @@ hasBlock column i = eqb (column / 2 ^ i % 2) 1
 -- object's block i, as node i's is a nodes buffer's
 unfoldable pub nodeBlock : ℕ → ℕ → List ℕ → ℕ → List ℕ
 nodeBlock zero L object column = replicate L 0
-nodeBlock (suc k) L object column =
-    cond (hasBlock column k) (xorBytes (nodeBlock k L object column) (blockOf L object (suc k))) (nodeBlock k L object column)
+nodeBlock (suc k) L object column = let rest = nodeBlock k L object column in cond (hasBlock column k) (xorBytes rest (blockOf L object (suc k))) rest
 
 -- the nodes buffer of an object: the blocks of all n nodes, one after the other
 unfoldable pub nodesBuffer : Family → ℕ → ℕ → List ℕ → List ℕ
