@@ -28,5 +28,4 @@ nodeOr0 family k column = cond (eqb (nodeCountOr0 family k) 0) 0 (nodeOf (family
 
 -- 1 where the three are nodes and related, else 0
 unfoldable pub relatedOr0 : ℕ → ℕ → ℕ → ℕ → ℕ → ℕ
-relatedOr0 family k a b c =
-    cond (isNode family k a && (isNode family k b && isNode family k c)) (cond (areRelated (familyOf family) k a b c) 1 0) 0
+relatedOr0 family k a b c = cond (isNode family k a && (isNode family k b && (isNode family k c && areRelated (familyOf family) k a b c))) 1 0

@@ -18,9 +18,7 @@ handedBack s refusal next = cond (eqb refusal 0) (sessionForC next) s
 
 -- a step: node j from nodes a and b
 unfoldable pub steppedC : MarkedSession → List ℕ → ℕ → ℕ → ℕ → StepAnswer
-steppedC s nodes j a b =
-    let own = stepped (sessionOfC s) nodes j a b in
-    record { refusal = own .refusal; session = handedBack s (own .refusal) (own .session) }
+steppedC s nodes j a b = let own = stepped (sessionOfC s) nodes j a b in record { refusal = own .refusal; session = handedBack s (own .refusal) (own .session) }
 
 -- the numbers of a plan or run, with the session that C gets
 abbrev pub repairsC : Repairs → MarkedSession → RepairsAnswer

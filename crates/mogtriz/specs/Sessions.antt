@@ -45,15 +45,11 @@ startedC own = record { refusal = own .refusal; session = sessionForC (own .sess
 
 -- what writing gives: the session as handed in
 unfoldable pub writtenC : MarkedSession → List ℕ → List ℕ → List ℕ → WriteAnswer
-writtenC s nodes list out =
-    let own = written (sessionOfC s) nodes list out in
-    record { refusal = own .refusal; length = own .length; session = s }
+writtenC s nodes list out = let own = written (sessionOfC s) nodes list out in record { refusal = own .refusal; length = own .length; session = s }
 
 -- what reading out gives, likewise
 unfoldable pub readOutC : MarkedSession → List ℕ → List ℕ → ReadOutAnswer
-readOutC s nodes object =
-    let own = readOut (sessionOfC s) nodes object in
-    record { refusal = own .refusal; block = own .block; session = s }
+readOutC s nodes object = let own = readOut (sessionOfC s) nodes object in record { refusal = own .refusal; block = own .block; session = s }
 
 -- the part of a box that is the body of node j: L bytes from its place among the bodies; 0 and 0 where it is refused
 unfoldable pub partIn : List ℕ → ℕ → Part
