@@ -17,7 +17,8 @@ use Rattle.base.proofs.First.{first-of, first-none, found}
 use Rattle.families.proofs.PairLaws.{PairOf, pair-of, pair-count, pair-once, unit-lt, data-column, pair-column, pair-is-node, pairs-le, placeOf}
 use Rattle.families.proofs.TetrahedronLaws.{Entry, entry}
 use Rattle.families.proofs.TetrahedronLaws as tetra
-use Rattle.families.specs.Families.{KInRange, IsNode, nodeCount, columnOf, nodeOf, areRelated, unit, pairNode}
+use Rattle.families.specs.Families.{KInRange, IsNode, nodeCount, columnOf, nodeOf, areRelated, pairNode}
+use Rattle.families.specs.Inner.{unit}
 use Rattle.families.specs.declared.Family.{Family}
 use Rattle.families.specs.declared.Family.the-variants.{Simplex, WeightTwo, Tetrahedron}
 

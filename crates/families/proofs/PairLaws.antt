@@ -1,16 +1,30 @@
 -- Weight-two: the nodes are the pairs a < b of the numbers 0 to k, each once, in document 01's order, for every k.
 -- Assumes nothing.
-use mathlib.Core.Path.{_≡_, refl, sym, ap, ap₂, _∙_}
+use mathlib.Core.Path.{_≡_, refl, sym, ap, _∙_}
+use mathlib.Core.Bool.{cond}
 use Prim.Native.Nat.{ℕ, zero, suc, _+_, _-_, _*_, _/_, _^_, _≤_, _<_}
 use native.Mathlib.Nat.{zero-lt-suc, le-of-suc-le-suc, not-suc-le-zero, pow-suc, mul-div-cancel, zero-add, mul-add, mul-le-mul}
 use native.Mathlib.Decide.{decLe, decLt}
 use native.Mathlib.Omega.{arith}
-use borrow.Author.Tests.{lt-ltb, le-ltb}
+use borrow.Author.Tests.{lt-ltb, le-ltb, le-leb, lt-leb}
+use lib.Dec.{ltb}
 use lib.Pow.{pow-lt, pow-pos, pow-mono}
-use Rattle.families.specs.Families.{smallerAt, largerAt, unit, pairNode, nodeCount, columnOf}
+use Rattle.families.specs.Families.{pairAt, pairNode, nodeCount, columnOf}
+use Rattle.families.specs.Inner.{unit}
 use Rattle.families.specs.declared.Family.the-variants.{WeightTwo}
 
 -- ---- the two numbers of the pair at a place
+
+-- A data block's node counts as the pair of no block, 0, and its block, so the nodes are all the pairs a < b of
+-- the numbers 0 to k, by a and then b. Where the row of the smaller number, a, has m pairs, here are the two numbers of the
+-- pair at a place, from 0: the first m have a for the smaller, and those after them are the pairs of one number fewer.
+unfoldable pub smallerAt : ℕ → ℕ → ℕ
+smallerAt zero place = 0
+smallerAt (suc m) place = cond (ltb place (suc m)) 0 (suc (smallerAt m (place - suc m)))
+
+unfoldable pub largerAt : ℕ → ℕ → ℕ
+largerAt zero place = 0
+largerAt (suc m) place = cond (ltb place (suc m)) (suc place) (suc (largerAt m (place - suc m)))
 
 -- in the first row
 pub smaller-near : (m place : ℕ) → place < suc m → smallerAt (suc m) place ≡ 0
@@ -102,6 +116,43 @@ placed (suc m) (suc a) b h g =
       smaller = smaller-far m (suc m + placeOf m a (b - 1)) (omega arith) ∙ rw (less-row m (placeOf m a (b - 1)), p .smaller);
       larger = larger-far m (suc m + placeOf m a (b - 1)) (omega arith) ∙ rw (less-row m (placeOf m a (b - 1)), p .larger) (omega arith);
     }
+
+-- ---- the column of the pair at a place
+
+bits-at : (m place : ℕ) → place < pairs m → pairAt (suc m) place ≡ 2 ^ smallerAt m place + 2 ^ largerAt m place
+unfolding pairAt
+bits-at zero place h = absurd (not-suc-le-zero h)
+bits-at (suc m) place h = go (decLt place (suc m)) (λ g. bits-at m (place - suc m) g)
+  where
+    a : ℕ
+    a = smallerAt m (place - suc m)
+
+    b : ℕ
+    b = largerAt m (place - suc m)
+
+    go : Dec (place < suc m) → (place - suc m < pairs m → pairAt (suc m) (place - suc m) ≡ 2 ^ a + 2 ^ b)
+        → pairAt (suc (suc m)) place ≡ 2 ^ smallerAt (suc m) place + 2 ^ largerAt (suc m) place
+    go (yes d) rest = rw (lt-ltb place (suc m) d, smaller-near m place d, larger-near m place d)
+    go (no d) rest =
+        let f : suc m ≤ place = omega arith in
+        rw (le-ltb place (suc m) f, smaller-far m place f, larger-far m place f) (omega (arith, rest (omega arith), pow-suc 2 a, pow-suc 2 b))
+
+-- node j is the pair at place j − 1
+pub column-at : (k j : ℕ) → 1 ≤ j → j ≤ nodeCount WeightTwo k → columnOf WeightTwo k j ≡ unit (smallerAt k (j - 1)) + unit (largerAt k (j - 1))
+unfolding columnOf
+column-at zero j h g = absurd (omega (arith, pair-count 0))
+column-at (suc m) j h g = go (decLt (j - 1) (suc m))
+  where
+    go : Dec (j - 1 < suc m) → columnOf WeightTwo (suc m) j ≡ unit (smallerAt (suc m) (j - 1)) + unit (largerAt (suc m) (j - 1))
+    go (yes d) = rw (le-leb j (suc m) (omega arith), smaller-near m (j - 1) d, larger-near m (j - 1) d) (sym (zero-add (2 ^ (j - 1))))
+    go (no d) =
+        let f : suc m ≤ j - 1 = omega arith in
+        rw (lt-leb j (suc m) (omega arith), smaller-far m (j - 1) f, larger-far m (j - 1) f) (bits-at m (j - 1 - suc m) (omega (arith, pair-count (suc m))))
+
+pub placed-column : (k a b : ℕ) → a < b → b ≤ k → columnOf WeightTwo k (suc (placeOf k a b)) ≡ unit a + unit b
+placed-column k a b h g =
+    let p : Placed k a b = placed k a b h g in
+    column-at k (suc (placeOf k a b)) (omega arith) (omega (arith, p .room, pair-count k)) ∙ rw (less-one (placeOf k a b), p .smaller, p .larger)
 
 -- ---- the row of a place, as the code walks the rows
 
@@ -198,19 +249,15 @@ pair-place k (suc i) j h g e =
 
 -- the pair i < j is the node that document 01 says
 pub pair-column : (k i j : ℕ) → 1 ≤ i → i < j → j ≤ k → columnOf WeightTwo k (pairNode k i j) ≡ 2 ^ (i - 1) + 2 ^ (j - 1)
-unfolding columnOf
 pair-column k zero j h g e = absurd (omega arith)
 pair-column k (suc i) zero h g e = absurd (omega arith)
 pair-column k (suc i) (suc j) h g e =
-    let p : Placed k (suc i) (suc j) = placed k (suc i) (suc j) g e in
-    rw (← pair-place k (suc i) (suc j) h g e, less-one (placeOf k (suc i) (suc j)), p .smaller, p .larger, less-one i, less-one j)
+    ap (columnOf WeightTwo k) (sym (pair-place k (suc i) (suc j) h g e)) ∙ placed-column k (suc i) (suc j) g e ∙ rw (less-one i, less-one j)
 
 -- a data block is the node of its own number
 pub data-column : (k i : ℕ) → 1 ≤ i → i ≤ k → columnOf WeightTwo k i ≡ 2 ^ (i - 1)
 unfolding columnOf
-data-column zero i h g = absurd (omega arith)
-data-column (suc m) i h g =
-    ap₂ (λ (x y : ℕ). unit x + unit y) (smaller-near m (i - 1) (omega arith)) (larger-near m (i - 1) (omega arith)) ∙ zero-add (2 ^ (i - 1))
+data-column k i h g = rw (le-leb i k g)
 
 pub pair-is-node : (k i j : ℕ) → 1 ≤ i → i < j → j ≤ k → (1 ≤ pairNode k i j) × (pairNode k i j ≤ nodeCount WeightTwo k)
 pair-is-node k i j h g e =
@@ -263,7 +310,6 @@ pub record PairOf (k j : ℕ) : Type 0 where
   pub node : j ≡ suc (placeOf k smaller larger)
 
 pub pair-of : (k j : ℕ) → 1 ≤ j → j ≤ nodeCount WeightTwo k → PairOf k j
-unfolding columnOf
 pair-of k j h g =
     let p : PairAt k (j - 1) = pair-at k (j - 1) (omega (arith, pair-count k)) in
     record {
@@ -271,7 +317,7 @@ pair-of k j h g =
       larger = largerAt k (j - 1);
       order = p .order;
       within = p .within;
-      column = refl;
+      column = column-at k j h g;
       node = omega (arith, p .back);
     }
 

@@ -5,7 +5,7 @@ use mathlib.Core.Bool.{Bool, cond}
 use mathlib.Core.List.{List, [], _∷_}
 use lib.ListN.{getD}
 use lib.Bits.{bitXor}
-use lib.Dec.{eqb, ltb}
+use lib.Dec.{eqb, leb, ltb}
 use Rattle.base.specs.Ranges.{firstFrom}
 use Rattle.families.specs.declared.Family.{Family}
 use Rattle.families.specs.declared.Family.the-variants.{Simplex, WeightTwo, Tetrahedron}
@@ -42,21 +42,11 @@ pub record IsNode (f : Family) (k j : ℕ) : Type 0 where
   pub first : 1 ≤ j
   pub last : j ≤ nodeCount f k
 
--- Weight-two. A data block's node counts as the pair of no block, 0, and its block, so the nodes are all the pairs a < b of
--- the numbers 0 to k, by a and then b. Where the row of the smaller number, a, has m pairs, here are the two numbers of the
--- pair at a place, from 0: the first m have a for the smaller, and those after them are the pairs of one number fewer.
-unfoldable pub smallerAt : ℕ → ℕ → ℕ
-smallerAt zero place = 0
-smallerAt (suc m) place = cond (ltb place (suc m)) 0 (suc (smallerAt m (place - suc m)))
-
-unfoldable pub largerAt : ℕ → ℕ → ℕ
-largerAt zero place = 0
-largerAt (suc m) place = cond (ltb place (suc m)) (suc place) (suc (largerAt m (place - suc m)))
-
--- the column of data block i alone, 2^(i − 1), and 0 for no block
-abbrev pub unit : ℕ → ℕ
-unit zero = 0
-unit (suc i) = 2 ^ i
+-- Weight-two: of the pairs i < j of m data blocks, by i and then j, the column of the one at a place, from 0. The first m − 1
+-- are block 1 with each block after it; then come the pairs of the other blocks, whose bits stand one further up.
+unfoldable pub pairAt : ℕ → ℕ → ℕ
+pairAt zero place = 0
+pairAt (suc m) place = cond (ltb place m) (1 + 2 ^ suc place) (2 * pairAt m (place - m))
 
 -- document 01's number of the pair i < j; that the columns have this order is a claim of Claims.antt
 abbrev pub pairNode : ℕ → ℕ → ℕ → ℕ
@@ -66,10 +56,10 @@ pairNode k i j = k + (i - 1) * (2 * k - i) / 2 + (j - i)
 abbrev pub tetrahedron : List ℕ
 tetrahedron = 1 ∷ 2 ∷ 4 ∷ 8 ∷ 5 ∷ 3 ∷ 6 ∷ 7 ∷ 10 ∷ 12 ∷ 14 ∷ 9 ∷ 11 ∷ 13 ∷ []
 
--- node j's column
+-- node j's column; weight-two: nodes 1 to k are the data blocks, then come the pairs
 unfoldable pub columnOf : Family → ℕ → ℕ → ℕ
 columnOf Simplex k j = j
-columnOf WeightTwo k j = unit (smallerAt k (j - 1)) + unit (largerAt k (j - 1))
+columnOf WeightTwo k j = cond (leb j k) (2 ^ (j - 1)) (pairAt k (j - 1 - k))
 columnOf Tetrahedron k j = getD tetrahedron (j - 1) 0
 
 -- the node with a column; 0 where there is no such node

@@ -4,8 +4,8 @@ ghost use mathlib.Core.Path.{_≡_};
 ghost use mathlib.Core.Bool.{cond};
 ghost use lib.Dec.{eqb};
 ghost use Prim.Native.Nat.{_+_, _^_, _≤_, _<_};
-ghost use Rattle.families.specs.Families.{KInRange, IsNode, unit, pairNode, nodeCount, columnOf, nodeOf};
-ghost use Rattle.families.specs.Inner.{columnTable};
+ghost use Rattle.families.specs.Families.{KInRange, IsNode, pairNode, nodeCount, columnOf, nodeOf};
+ghost use Rattle.families.specs.Inner.{unit, columnTable};
 ghost use Rattle.families.specs.declared.Family.the-variants.{WeightTwo};
 
 // A pair, of which the first number is the smaller.

@@ -3,7 +3,7 @@
 use mathlib.Core.Path.{_≡_, sym, ap, ap₂, _∙_}
 use mathlib.Core.Bool.{Bool, true, false, cond}
 use mathlib.Core.Logic.{_⊎_, inl, inr}
-use Prim.Native.Nat.{ℕ, zero, suc, _+_, _-_, _^_, _≤_, _<_}
+use Prim.Native.Nat.{ℕ, zero, suc, _+_, _^_, _≤_, _<_}
 use native.Mathlib.Nat.{le-of-suc-le-suc, not-suc-le-zero, zero-div, one-mul, add-comm}
 use native.Mathlib.Decide.{decLt}
 use native.Mathlib.Omega.{arith}
@@ -11,9 +11,10 @@ use lib.Bits.{bitXor, xor-comm, xor-self, xor-zero-r, xor-shifted, xor-lt}
 use lib.Pow.{pow-lt}
 use Rattle.base.proofs.Xor.{xor-assoc, xor-cancel, xor-middle}
 use Rattle.families.specs.declared.Family.the-variants.{WeightTwo}
-use Rattle.families.specs.Families.{KInRange, IsNode, columnOf, nodeOf, unit}
+use Rattle.families.specs.Families.{KInRange, IsNode, columnOf, nodeOf}
+use Rattle.families.specs.Inner.{unit}
 use Rattle.families.proofs.Laws.{node-is}
-use Rattle.families.proofs.PairLaws.{PairOf, pair-of, Placed, placed, placeOf, pair-count}
+use Rattle.families.proofs.PairLaws.{PairOf, pair-of, Placed, placed, placed-column, placeOf, pair-count}
 use Rattle.encoding.specs.Matrix.{hasBlock}
 use Rattle.encoding.proofs.Linear.{xorOver, xorOver-none, xorOver-xor, xorOver-unit}
 use Rattle.planning.specs.Pairs.{NoPairLeft}
@@ -38,12 +39,10 @@ both-through a b c = xor-assoc (unit a) (unit b) (both b c) ∙ ap (bitXor (unit
 
 module _ (k : ℕ) (r : KInRange WeightTwo k) where
   pair-node : (a b : ℕ) → a < b → b ≤ k → 1 ≤ nodeOf WeightTwo k (both a b)
-  unfolding columnOf
   pair-node a b h g =
       let p : Placed k a b = placed k a b h g in
-      let z : suc (placeOf k a b) - 1 ≡ placeOf k a b = omega arith in
       let e = node-is WeightTwo k r (both a b) (suc (placeOf k a b)) (record { first = omega arith; last = omega (arith, p .room, pair-count k) })
-      (rw (z, p .smaller, p .larger) (both-sum a b h)) in
+      (placed-column k a b h g ∙ both-sum a b h) in
       omega (arith, e)
 
   -- two numbers are equal or joined by a node

@@ -4,8 +4,7 @@
 use mathlib.Core.Path.{_≡_, sym, ap₂, _∙_}
 use Prim.Native.Nat.{_+_, _-_, _<_}
 use native.Mathlib.Nat.{zero-add}
-use Rattle.families.proofs.PairLaws.{pairs, pair-count, next-row, in-row, unit-small}
-use Rattle.families.specs.Families.{smallerAt, largerAt, columnOf}
+use Rattle.families.proofs.PairLaws.{smallerAt, largerAt, pairs, pair-count, column-at, next-row, in-row, unit-small}
 use borrow.Author.Needs.{needs}
 use native.Mathlib.Omega.{arith}
 use Rattle.families.proofs.pairs.column.Statement.{statement}
@@ -38,13 +37,15 @@ add-result c =
     omega (arith, c .before .unit-column .ensures, c .unit-column2 .ensures, unit-small (l .smaller) (omega arith), unit-small (l .smaller + 1 + l .place) (omega arith))
 
 returns : tie.Need-returns Inv-loop μ-loop
-unfolding columnOf
 returns c =
     let l = c .before .before .before .loop in
+    let b = c .before .before .before .before in
+    let k = b .args .k in
+    let j = b .args .j in
     let i = in-row (l .row) (l .place) (c .before .before .loop-test .left) in
-    let s : smallerAt (c .before .before .before .before .args .k) (c .before .before .before .before .args .j - 1) ≡ l .smaller = omega (arith, i .0) in
-    let t : largerAt (c .before .before .before .before .args .k) (c .before .before .before .before .args .j - 1) ≡ l .smaller + 1 + l .place = omega (arith, i .1) in
-    ap₂ _+_ (c .before .unit-column .ensures) (c .unit-column2 .ensures) ∙ rw (s, t)
+    let s : smallerAt k (j - 1) ≡ l .smaller = omega (arith, i .0) in
+    let t : largerAt k (j - 1) ≡ l .smaller + 1 + l .place = omega (arith, i .1) in
+    ap₂ _+_ (c .before .unit-column .ensures) (c .unit-column2 .ensures) ∙ rw (column-at k j (b .pre .1 .first) (b .pre .1 .last), s, t)
 
 pub column-spec : {M : Type 1} → statement M
 column-spec =

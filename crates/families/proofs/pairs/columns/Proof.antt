@@ -8,9 +8,10 @@ use native.Mathlib.Numerals.{add-one}
 use borrow.Author.Tests.{eqb-true, eqb-false}
 use lib.Dec.{eqb}
 use Rattle.families.proofs.Laws.{few}
-use Rattle.families.proofs.PairLaws.{pairs, pair-count, pair-at, PairAt, next-pair, unit-small, in-row}
+use Rattle.families.proofs.PairLaws.{smallerAt, largerAt, pairs, pair-count, pair-at, PairAt, column-at, next-pair, unit-small, in-row}
 use Rattle.families.proofs.TableLaws.{columnsTo, columns-none, columns-more, columns-all}
-use Rattle.families.specs.Families.{nodeCount, smallerAt, largerAt, unit, columnOf}
+use Rattle.families.specs.Families.{nodeCount, columnOf}
+use Rattle.families.specs.Inner.{unit}
 use Rattle.families.specs.declared.Family.the-variants.{WeightTwo}
 use Rattle.families.specs.declared.pairs.Pair.{Pair}
 use native.Mathlib.Omega.{arith}
@@ -45,9 +46,8 @@ Inv-loop k n table₀ pair₀ j₀ table pair j = ((j ≤ n) × (table ≡ colum
 abbrev μ-loop : tie.MeasureT-loop
 μ-loop k n table₀ pair₀ j₀ table pair j = n - j
 
-column-at : (k j : ℕ) (p : Pair) → Stands k j p → unit (p .smaller) + unit (p .larger) ≡ columnOf WeightTwo k (j + 1)
-unfolding columnOf
-column-at k j p s = let e : j + 1 - 1 ≡ j = omega arith in rw (e, s .smaller, s .larger)
+next-column : (k j : ℕ) (p : Pair) → j < nodeCount WeightTwo k → Stands k j p → unit (p .smaller) + unit (p .larger) ≡ columnOf WeightTwo k (j + 1)
+next-column k j p h s = let e : j + 1 - 1 ≡ j = omega arith in rw (column-at k (j + 1) (omega arith) (omega arith), e, s .smaller, s .larger)
 
 -- both numbers of the pair are at most 22
 small : (c : tie.In-loop Inv-loop μ-loop) → (c .before .loop .pair .smaller ≤ 22) × (c .before .loop .pair .larger ≤ 22)
@@ -91,7 +91,7 @@ loop-again c =
     let g = c .before .before .before .before .before .before .args in
     let n = c .before .before .before .before .before .count .ensures in
     let s = l .inv .1 (c .before .before .before .loop-test .taken) in
-    let v = ap₂ _+_ (c .before .before .unit-column .ensures) (c .before .unit-column2 .ensures) ∙ column-at (g .k) (l .j) (l .pair) s in
+    let v = ap₂ _+_ (c .before .before .unit-column .ensures) (c .before .unit-column2 .ensures) ∙ next-column (g .k) (l .j) (l .pair) (omega (arith, n)) s in
     ((omega arith, rw (l .inv .0 .1) (columns-more WeightTwo (g .k) (l .j) _ v)), (λ h. next (g .k) (l .j) (l .pair) _ (omega (arith, n, pair-count (g .k), h)) s (c .next-pair .ensures)))
 
 returns : tie.Need-returns Inv-loop μ-loop
