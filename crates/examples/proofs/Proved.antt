@@ -33,7 +33,7 @@ use Rattle.repair.specs.Step.{stepChecks, stepped, nodesStepped}
 use Rattle.repair.specs.Repairs.{planIn}
 use Rattle.repair.proofs.StartLaws.{nodes-0}
 use Rattle.repair.proofs.RepairsLaws.{plan-made, run-made}
-use Rattle.listing.specs.Text.{digitCount, decimal, field, firstLine, stepLine, lastLine, refusalLine}
+use Rattle.listing.specs.Text.{decimal, field, firstLine, stepLine, lastLine, refusalLine}
 use Rattle.listing.specs.Listing.{answerOf, listingIn, listingOf}
 use Rattle.examples.specs.Examples.{Row, Encodes, Plans, Starts, BoxGives, BoxReads, BoxHolds, BoxLacks, BoxSteps, BoxWrites, Lists, accepted, allBut, HasPlan, Holds, Every, table, Examples}
 
@@ -142,7 +142,7 @@ _&_ : {A B : Type 0} → A → B → A × B
 a & b = (a, b)
 
 computed : Every Computed table
-unfolding started refusalLine encodeChecks parameterChecks firstMet nodesBuffer joined nodeBlock columnOf nodeCount xorBytes zipWith startChecks checkedBox boxChecks someOutside rises setLive noStart liveOutside someFrom planOf roundsFrom isRepaired smallerNode largerNode firstFrom areRelated pairAt stepBytes lastRound getLastD nodesLeft countFrom thoseFrom someMissing stepsIn placeIn listFrom readBox nodesRead readChecks withBodies withBlock blockOf bodyChecks bodyOf writeChecks nodesChecks written outWritten boxOf flatMap stepChecks stepped nodesStepped listingOf answerOf listingIn firstLine stepLine lastLine field decimal digitCount
+unfolding started refusalLine encodeChecks parameterChecks firstMet nodesBuffer joined nodeBlock columnOf nodeCount xorBytes zipWith startChecks checkedBox boxChecks someOutside rises setLive noStart liveOutside someFrom planOf roundsFrom isRepaired smallerNode largerNode firstFrom areRelated pairAt stepBytes lastRound getLastD nodesLeft countFrom thoseFrom someMissing stepsIn placeIn listFrom readBox nodesRead readChecks withBodies withBlock blockOf bodyChecks bodyOf writeChecks nodesChecks written outWritten boxOf flatMap stepChecks stepped nodesStepped listingOf answerOf listingIn firstLine stepLine lastLine field decimal
 computed =
     (refl, refl)
     & (refl, λ byte. (refl, refl))

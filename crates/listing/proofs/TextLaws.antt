@@ -15,7 +15,7 @@ use Rattle.io.specs.Digits.{digits, Fewest}
 use Rattle.base.proofs.Tests.{not-both}
 use Rattle.base.proofs.First.{first-of}
 use Rattle.planning.specs.Plan.{Step}
-use Rattle.listing.specs.Text.{ascii, digitCount, decimal, field, firstLine, stepLine, lastLine, refusalLine}
+use Rattle.listing.specs.Text.{ascii, decimal, field, firstLine, stepLine, lastLine, refusalLine}
 
 length-digits : (b k n : ℕ) → length (digits b k n) ≡ k
 length-digits b zero n = refl
@@ -41,21 +41,17 @@ few-digits n r h f = go (decLt 20 r)
     go (yes l) = absurd (omega (arith, pow-le-pow-right {n = 10} (omega arith) {i = 20} {j = r - 1} (omega arith), f .2 (omega arith)))
     go (no l) = omega arith
 
-count-is : (n r : ℕ) → n < 2 ^ 64 → Fewest 10 1 n r → digitCount n ≡ r
-unfolding digitCount
-count-is n r h f =
-    let l = few-digits n r h f in
-    first-of (λ count. ltb n (10 ^ count)) 1 20 r (f .0) (omega arith) (lt-ltb n (10 ^ r) (f .1))
-    (λ i a b. le-ltb n (10 ^ i) (le-trans (pow-le-pow-right {n = 10} (omega arith) {i = i} {j = r - 1} (omega arith)) (f .2 (omega arith))))
-
 pub decimal-is : (n r : ℕ) → n < 2 ^ 64 → Fewest 10 1 n r → digits 10 r n ≡ decimal n
 unfolding decimal
-decimal-is n r h f = rw (count-is n r h f)
+decimal-is n r h f =
+    let l = few-digits n r h f in
+    rw (first-of (λ count. ltb n (10 ^ count)) 1 20 r (f .0) (omega arith) (lt-ltb n (10 ^ r) (f .1))
+    (λ i a b. le-ltb n (10 ^ i) (le-trans (pow-le-pow-right {n = 10} (omega arith) {i = i} {j = r - 1} (omega arith)) (f .2 (omega arith)))))
 
 decimal-most : (n m : ℕ) → 1 ≤ m → m ≤ 20 → n < 10 ^ m → length (decimal n) ≤ m
-unfolding decimal digitCount
+unfolding decimal
 decimal-most n m a b h =
-    rw (length-digits 10 (digitCount n) n) (first-most (λ count. ltb n (10 ^ count)) 1 20 m a (omega arith) (lt-ltb n (10 ^ m) h))
+    rw length-digits (first-most (λ count. ltb n (10 ^ count)) 1 20 m a (omega arith) (lt-ltb n (10 ^ m) h))
 
 -- ---- a word and a number after it
 

@@ -3,7 +3,7 @@ ghost use mathlib.Core.List.{_++_};
 ghost use Prim.Native.Nat.{_+_, _≤_};
 ghost use lib.ListN.{length};
 ghost use Rattle.listing.specs.Inner.{Put};
-ghost use Rattle.listing.specs.Text.{decimal, field, newline};
+ghost use Rattle.listing.specs.Text.{ascii, decimal, field};
 
 // A word.
 pub fn put(word: &[u8], out: &mut [u8], at: usize) -> usize
@@ -52,8 +52,8 @@ pub fn put_fields(
 
 // A word with its number, and the line's end.
 pub fn put_last_field(word: &[u8], n: usize, out: &mut [u8], at: usize) -> usize
-    requires { ⌜ at + length (field (now word) n ++ newline) ≤ length (now out) ⌝ }
-    ensures { λ r. ⌜ Put (now (out .entry)) at (field (now (word .entry)) n ++ newline) (now (out .exit)) r ⌝ }
+    requires { ⌜ at + length (field (now word) n ++ ascii "\n") ≤ length (now out) ⌝ }
+    ensures { λ r. ⌜ Put (now (out .entry)) at (field (now (word .entry)) n ++ ascii "\n") (now (out .exit)) r ⌝ }
 {
     let next = put_field(word, n, out, at);
     put(b"\n", out, next)
@@ -68,8 +68,8 @@ pub fn put_last_fields(
     out: &mut [u8],
     at: usize,
 ) -> usize
-    requires { ⌜ at + length (field (now first) a ++ (field (now second) b ++ newline)) ≤ length (now out) ⌝ }
-    ensures { λ r. ⌜ Put (now (out .entry)) at (field (now (first .entry)) a ++ (field (now (second .entry)) b ++ newline)) (now (out .exit)) r ⌝ }
+    requires { ⌜ at + length (field (now first) a ++ (field (now second) b ++ ascii "\n")) ≤ length (now out) ⌝ }
+    ensures { λ r. ⌜ Put (now (out .entry)) at (field (now (first .entry)) a ++ (field (now (second .entry)) b ++ ascii "\n")) (now (out .exit)) r ⌝ }
 {
     let next = put_field(first, a, out, at);
     put_last_field(second, b, out, next)

@@ -32,11 +32,15 @@ use Rattle.repair.proofs.Proved.{start-marks-claim, box-start-claim, write-read
 use Rattle.repair.proofs.RepairsProved.{live-stays, run-claim, own-claim}
 use Rattle.repair.proofs.WholeWayProved.{write-live-claim, own-box-claim, missing-open-claim}
 use Rattle.listing.proofs.ListingLaws.{Accepted}
-use Rattle.refilling.specs.Refilled.{liveBox, afterRun, boxAfterRun, nodesGiven, refilledOf}
+use Rattle.refilling.specs.Refilled.{afterRun, boxAfterRun, nodesGiven, refilledOf}
 use Rattle.refilling.specs.Claims.{RefilledClaim}
 use Rattle.refilling.proofs.Laws.{box, session-is, same, read-is, reads, held-fits, runs, after-fits, written-claims, refilled-is}
 
 -- ---- what is written of an accepted box that is not too long
+
+-- the box of all live nodes of a session
+abbrev liveBox : Session → List ℕ → List ℕ
+liveBox s nodes = boxOf (s .family) (s .k) (s .len) (listed s []) nodes
 
 module _ (input : List ℕ) (passes : checkedBox input .refusal ≡ 0) (short : boxLength (nodeCountIn input) (blockLengthIn input) ≤ 65536) where
   abbrev given : Session

@@ -12,17 +12,13 @@ use Rattle.repair.specs.Repairs.{ran, nodesRan}
 use Rattle.listing.specs.Text.{tooLongLine}
 use Rattle.listing.specs.Listing.{mostBytes, answerOf}
 
--- the box of all live nodes of a session
-abbrev pub liveBox : Session → List ℕ → List ℕ
-liveBox s nodes = boxOf (s .family) (s .k) (s .len) (listed s []) nodes
-
 -- the session whose live nodes are written: the one after the run
 abbrev pub afterRun : Session → List ℕ → Session
 afterRun s nodes = ran s nodes .session
 
 -- the plan of a session run on a nodes buffer, and the box of all live nodes then
 unfoldable pub boxAfterRun : Session → List ℕ → List ℕ
-boxAfterRun s nodes = liveBox (afterRun s nodes) (nodesRan s nodes)
+boxAfterRun s nodes = let next = afterRun s nodes in boxOf (next .family) (next .k) (next .len) (listed next []) (nodesRan s nodes)
 
 -- the box read into a nodes buffer, in which the places of missing nodes are zeros
 unfoldable pub nodesGiven : List ℕ → List ℕ
