@@ -31,12 +31,12 @@ family-claims f k r =
     some : (c : ℕ) → (nodeOf f k c ≡ 0 → ⊥) → 1 ≤ nodeOf f k c
     some c h = omega arith
 
-pub pair-claims : PairClaim
-pair-claims k =
+pub pair-claim : PairClaim
+pair-claim =
     record {
-      data-blocks = data-column k;
-      pairs = pair-column k;
-      pairs-are-nodes = λ i j h g e. let n = pair-is-node k i j h g e in record { first = n .0; last = n .1 };
+      data-blocks = data-column;
+      pairs = pair-column;
+      pairs-are-nodes = λ k i j h g e. let n = pair-is-node k i j h g e in record { first = n .0; last = n .1 };
     }
 
 pub tetrahedron-claim : TetrahedronClaim

@@ -29,15 +29,11 @@ pub record FamilyClaims (f : Family) (k : ℕ) : Type 0 where
 abbrev pub FamilyClaim : Type 0
 FamilyClaim = (f : Family) (k : ℕ) → KInRange f k → FamilyClaims f k
 
--- of the weight-two family: nodes 1 to k are the data blocks, and the pair i < j is the node that document 01 says
-pub record PairClaims (k : ℕ) : Type 0 where
-  pub data-blocks : (i : ℕ) → 1 ≤ i → i ≤ k → columnOf WeightTwo k i ≡ 2 ^ (i - 1)
-  pub pairs : (i j : ℕ) → 1 ≤ i → i < j → j ≤ k → columnOf WeightTwo k (pairNode k i j) ≡ 2 ^ (i - 1) + 2 ^ (j - 1)
-  pub pairs-are-nodes : (i j : ℕ) → 1 ≤ i → i < j → j ≤ k → IsNode WeightTwo k (pairNode k i j)
-
--- for every k
-abbrev pub PairClaim : Type 0
-PairClaim = (k : ℕ) → PairClaims k
+-- of the weight-two family, for every k: nodes 1 to k are the data blocks, and the pair i < j is the node that document 01 says
+pub record PairClaim : Type 0 where
+  pub data-blocks : (k i : ℕ) → 1 ≤ i → i ≤ k → columnOf WeightTwo k i ≡ 2 ^ (i - 1)
+  pub pairs : (k i j : ℕ) → 1 ≤ i → i < j → j ≤ k → columnOf WeightTwo k (pairNode k i j) ≡ 2 ^ (i - 1) + 2 ^ (j - 1)
+  pub pairs-are-nodes : (k i j : ℕ) → 1 ≤ i → i < j → j ≤ k → IsNode WeightTwo k (pairNode k i j)
 
 -- of the tetrahedron: column 15 does not occur
 abbrev pub TetrahedronClaim : Type 0
