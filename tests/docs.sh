@@ -2,7 +2,8 @@
 # What the docs name is there. In backticks: a path exists, also relative to a crate of its line; `crate::name` and `Session::name`
 # are declared in Rattle, and `mogtriz_name` in the header; any other word is one of the code, its comments left out. A name before
 # "(crate, Module)", or in the bracket itself, stands in that module of specs/. A must-fail edit, crate/edit, exists. Links of README.md
-# and docs/ lead to a file, and to a heading of it.
+# and docs/ lead to a file, and to a heading of it. Each file of specs/ is either definitions or claims in the table of docs/LAYERS.md;
+# their lines are counted.
 # Usage: bash tests/docs.sh
 set -euo pipefail
 cd "$(dirname "$0")/.."
@@ -198,5 +199,33 @@ while IFS=: read -r page line link; do
     fi
 done < <(grep -noE '\]\([^)]*\)' README.md docs/*.md | sed 's/\](//; s/)$//' | grep -vE ':[0-9]+:[a-z]+://')
 
+# ---- what has to be believed
+
+# column N: the files of specs/ that the table of docs/LAYERS.md has in its Nth column
+column() {
+    awk -F'|' -v n="$(($1 + 1))" '
+        /^\| [a-z_]+ \|/ {
+            crate = $2
+            gsub(/ /, "", crate)
+            for (text = $n; match(text, /`specs\/[A-Za-z]+\.antt`/); text = substr(text, RSTART + RLENGTH))
+                print "crates/" crate "/" substr(text, RSTART + 1, RLENGTH - 2)
+        }' docs/LAYERS.md
+}
+mapfile -t believed < <(column 4)
+mapfile -t claims < <(column 5)
+mapfile -t inner < <(compgen -G 'crates/*/specs/Inner.antt')
+
+# every file of specs/ is in one of the two columns, or serves inner functions
+for file in crates/*/specs/*.antt; do
+    case $file in */Lib.antt | */Inner.antt) continue ;; esac
+    looked=$((looked + 1))
+    listed=$(printf '%s\n' "${believed[@]}" "${claims[@]}" | grep -cxF "$file" || true)
+    if [ "$listed" -ne 1 ]; then lacks docs/LAYERS.md "$file is in $listed columns"; fi
+done
+
+# lines FILE..: without imports, comments and blank lines
+lines() { cat "$@" | grep -cvE '^ *(--|use |module |infix |$)'; }
+
+echo "specs: $(lines "${believed[@]}") lines to believe, $(lines "${claims[@]}") of claims, $(lines "${inner[@]}") for inner functions"
 echo "docs: $looked names and links, $missing missing"
 [ "$missing" -eq 0 ]
