@@ -19,4 +19,4 @@ blockOf L nodes j = take L (drop ((j - 1) * L) nodes)
 
 -- the nodes buffer with another block for node j
 unfoldable pub withBlock : ℕ → List ℕ → ℕ → List ℕ → List ℕ
-withBlock L nodes j block = take ((j - 1) * L) nodes ++ (block ++ drop ((j - 1) * L + L) nodes)
+withBlock L nodes j block = let start = (j - 1) * L in take start nodes ++ (block ++ drop (start + L) nodes)

@@ -18,8 +18,8 @@ mostBytes = 65536
 -- a longer input prints `too long`, a refused one `refused` and its number; any other the text that is asked for
 unfoldable pub answerOf : List ℕ → List ℕ → List ℕ
 answerOf input text =
-    cond (ltb mostBytes (length input)) tooLongLine
-    (cond (eqb (checkedBox input .refusal) 0) text (refusalLine (checkedBox input .refusal)))
+    let number = checkedBox input .refusal in
+    cond (ltb mostBytes (length input)) tooLongLine (cond (eqb number 0) text (refusalLine number))
 
 -- a first line with family, k, length and live count, a line for each step of the plan, and a last line with its steps,
 -- rounds and nodes left
