@@ -2,22 +2,29 @@
 -- Assumes nothing.
 use mathlib.Core.Path.{_≡_, refl, sym, ap, ap₂, _∙_}
 use mathlib.Core.Bool.{Bool, true, false, cond}
-use mathlib.Core.List.{List}
+use mathlib.Core.List.{List, [], _∷_, _++_, map, foldr, map-append}
 use mathlib.Core.Logic.{⊎-elim}
 use Prim.Native.Nat.{ℕ, zero, suc, _+_, _-_, _*_, _/_, _%_, _^_, _≤_, _<_}
 use native.Mathlib.Nat.{le-of-suc-le-suc, not-suc-le-zero, eq-or-lt-of-le, mul-le-mul-right, suc-mul, le-refl, div-eq-of-lt, div-self, zero-div, pow-suc, mul-mod-left}
+use native.Mathlib.Numerals.{add-one}
 use native.Mathlib.Omega.{arith}
 use lib.Dec.{eqb}
 use lib.Pow.{pow-pos, pow-lt, pow-add, shl-shr}
 use lib.Bits.{bitXor, xor-shr, xor-mod, xor-self, xor-zero-r}
 use lib.ListN.{length, getD, replicate, length-take, length-drop, length-replicate, getD-replicate}
 use lib.Seq.{getD-take, getD-drop, ext-getD}
+use Rattle.base.specs.Ranges.{thoseFrom}
+use Rattle.base.proofs.RangeLaws.{those-more, those-same}
 use Rattle.base.proofs.Xor.{xor-middle, xor-third}
 use Rattle.blocks.specs.Blocks.{xorBytes, blockOf}
-use Rattle.blocks.proofs.XorBytes.{length-xorBytes, getD-xorBytes, xorBytes-self}
+use Rattle.blocks.proofs.XorBytes.{length-xorBytes, getD-xorBytes, xorBytes-comm, xorBytes-assoc, xorBytes-self}
 use Rattle.encoding.specs.Matrix.{hasBlock, nodeBlock}
 
 -- ---- the XOR of those of k numbers that pass a test
+
+-- bit i of a column is set: data block i + 1 is in it
+abbrev pub hasBit : ℕ → ℕ → Bool
+hasBit column i = eqb (column / 2 ^ i % 2) 1
 
 unfoldable pub xorOver : ℕ → (ℕ → Bool) → (ℕ → ℕ) → ℕ
 xorOver zero test f = 0
@@ -39,27 +46,27 @@ digit-xor (suc zero) (suc (suc y)) hx hy v = absurd (omega arith)
 digit-xor (suc (suc x)) y hx hy v = absurd (omega arith)
 
 -- bit i of a XOR is the XOR of the bits i
-pub xorOver-xor : (k a b : ℕ) (f : ℕ → ℕ) → xorOver k (hasBlock (bitXor a b)) f ≡ bitXor (xorOver k (hasBlock a) f) (xorOver k (hasBlock b) f)
+pub xorOver-xor : (k a b : ℕ) (f : ℕ → ℕ) → xorOver k (hasBit (bitXor a b)) f ≡ bitXor (xorOver k (hasBit a) f) (xorOver k (hasBit b) f)
 unfolding xorOver
 xorOver-xor zero a b f = refl
 xorOver-xor (suc k) a b f =
     rw (xorOver-xor k a b f, xor-shr a b k, xor-mod (a / 2 ^ k) (b / 2 ^ k) 1, digit-xor (a / 2 ^ k % 2) (b / 2 ^ k % 2) (omega arith) (omega arith) (f k))
-    (xor-middle (xorOver k (hasBlock a) f) (xorOver k (hasBlock b) f) (cond (hasBlock a k) (f k) 0) (cond (hasBlock b k) (f k) 0))
+    (xor-middle (xorOver k (hasBit a) f) (xorOver k (hasBit b) f) (cond (hasBit a k) (f k) 0) (cond (hasBit b k) (f k) 0))
 
-unit-below : (i j : ℕ) → i < j → hasBlock (2 ^ i) j ≡ false
+unit-below : (i j : ℕ) → i < j → hasBit (2 ^ i) j ≡ false
 unit-below i j h = rw (div-eq-of-lt (pow-lt h))
 
-unit-above : (i j : ℕ) → j < i → hasBlock (2 ^ i) j ≡ false
+unit-above : (i j : ℕ) → j < i → hasBit (2 ^ i) j ≡ false
 unit-above i j h =
     let e : i ≡ suc (i - suc j) + j = omega arith in
     let p : 2 ^ i / 2 ^ j ≡ 2 ^ (i - suc j) * 2 = ap (λ (n : ℕ). 2 ^ n / 2 ^ j) e ∙ rw (pow-add 2 (suc (i - suc j)) j, shl-shr) (pow-suc 2 (i - suc j)) in
     rw (p, mul-mod-left)
 
-pub xorOver-unit : (k i : ℕ) (f : ℕ → ℕ) → i < k → xorOver k (hasBlock (2 ^ i)) f ≡ f i
+pub xorOver-unit : (k i : ℕ) (f : ℕ → ℕ) → i < k → xorOver k (hasBit (2 ^ i)) f ≡ f i
 unfolding xorOver
 xorOver-unit zero i f h = absurd (not-suc-le-zero h)
 xorOver-unit (suc k) i f h =
-    ⊎-elim (λ (e : i ≡ k). rw (e, xorOver-none k (hasBlock (2 ^ k)) f (unit-above k), div-self (pow-pos k)))
+    ⊎-elim (λ (e : i ≡ k). rw (e, xorOver-none k (hasBit (2 ^ k)) f (unit-above k), div-self (pow-pos k)))
     (λ (l : i < k). rw (xorOver-unit k i f l, unit-below i k l) (xor-zero-r (f i))) (eq-or-lt-of-le (le-of-suc-le-suc h))
 
 -- ---- the bytes of blocks
@@ -86,10 +93,31 @@ cond-bytes {f} false s t = record { size = s .size; at = λ p h. s .at p h ∙ s
 
 -- ---- the laws of nodes
 
-pub node-block-zero : (k L : ℕ) (object : List ℕ) → nodeBlock k L object 0 ≡ replicate L 0
+-- one block more comes last
+xor-last : (zeros block : List ℕ) (blocks : List (List ℕ)) → foldr xorBytes zeros (blocks ++ block ∷ []) ≡ xorBytes (foldr xorBytes zeros blocks) block
+xor-last zeros block [] = xorBytes-comm block zeros
+xor-last zeros block (b ∷ blocks) = ap (xorBytes b) (xor-last zeros block blocks) ∙ sym (xorBytes-assoc b (foldr xorBytes zeros blocks) block)
+
+pub node-block-more : (k L : ℕ) (object : List ℕ) (column : ℕ)
+    → nodeBlock (suc k) L object column ≡ cond (hasBit column k) (xorBytes (nodeBlock k L object column) (blockOf L object (suc k))) (nodeBlock k L object column)
 unfolding nodeBlock
+node-block-more k L object column = rw (← add-one k) (go (hasBit column k) (ap (hasBit column) back))
+  where
+    back : k + 1 - 1 ≡ k
+    back = omega arith
+
+    front : List ℕ
+    front = thoseFrom (hasBlock column) 1 k
+
+    go : (b : Bool) → hasBlock column (k + 1) ≡ b
+        → nodeBlock (k + 1) L object column ≡ cond b (xorBytes (nodeBlock k L object column) (blockOf L object (k + 1))) (nodeBlock k L object column)
+    go true e = rw (those-more (hasBlock column) k e, map-append (blockOf L object) front ((k + 1) ∷ [])) (xor-last (replicate L 0) (blockOf L object (k + 1)) (map (blockOf L object) front))
+    go false e = rw (those-same (hasBlock column) k e)
+
+pub node-block-zero : (k L : ℕ) (object : List ℕ) → nodeBlock k L object 0 ≡ replicate L 0
+unfolding nodeBlock thoseFrom
 node-block-zero zero L object = refl
-node-block-zero (suc k) L object = rw (zero-div (2 ^ k)) (node-block-zero k L object)
+node-block-zero (suc k) L object = node-block-more k L object 0 ∙ rw (zero-div (2 ^ k)) (node-block-zero k L object)
 
 module _ (k L : ℕ) (object : List ℕ) (h : length object ≡ k * L) where
   data-bytes : (i : ℕ) → i < k → Bytes L (blockOf L object (suc i)) (λ p. getD object (i * L + p) 0)
@@ -102,18 +130,18 @@ module _ (k L : ℕ) (object : List ℕ) (h : length object ≡ k * L) where
       }
 
   -- of the first i blocks alone
-  first-bytes : (column i : ℕ) → i ≤ k → Bytes L (nodeBlock i L object column) (λ p. xorOver i (hasBlock column) (λ j. getD object (j * L + p) 0))
-  unfolding nodeBlock xorOver
+  first-bytes : (column i : ℕ) → i ≤ k → Bytes L (nodeBlock i L object column) (λ p. xorOver i (hasBit column) (λ j. getD object (j * L + p) 0))
+  unfolding nodeBlock thoseFrom xorOver
   first-bytes column zero l = record { size = length-replicate L 0; at = λ p b. getD-replicate L p 0 0 b }
-  first-bytes column (suc i) l = cond-bytes (hasBlock column i) (first-bytes column i (omega arith)) (data-bytes i l)
+  first-bytes column (suc i) l = rw (node-block-more i L object column) (cond-bytes (hasBit column i) (first-bytes column i (omega arith)) (data-bytes i l))
 
-  node-bytes : (column : ℕ) → Bytes L (nodeBlock k L object column) (λ p. xorOver k (hasBlock column) (λ i. getD object (i * L + p) 0))
+  node-bytes : (column : ℕ) → Bytes L (nodeBlock k L object column) (λ p. xorOver k (hasBit column) (λ i. getD object (i * L + p) 0))
   node-bytes column = first-bytes column k (le-refl k)
 
   pub length-nodeBlock : (column : ℕ) → length (nodeBlock k L object column) ≡ L
   length-nodeBlock column = node-bytes column .size
 
-  pub node-byte : (column p : ℕ) → p < L → getD (nodeBlock k L object column) p 0 ≡ xorOver k (hasBlock column) (λ i. getD object (i * L + p) 0)
+  pub node-byte : (column p : ℕ) → p < L → getD (nodeBlock k L object column) p 0 ≡ xorOver k (hasBit column) (λ i. getD object (i * L + p) 0)
   node-byte column = node-bytes column .at
 
   pub node-block-xor : (a b : ℕ) → nodeBlock k L object (bitXor a b) ≡ xorBytes (nodeBlock k L object a) (nodeBlock k L object b)

@@ -13,8 +13,8 @@ use Rattle.families.specs.declared.Family.{Family}
 use Rattle.families.specs.Families.{IsNode, columnOf}
 use Rattle.base.specs.Ranges.{listFrom}
 use Rattle.families.proofs.TableLaws.{length-listFrom, getD-listFrom}
-use Rattle.encoding.specs.Matrix.{hasBlock, nodeBlock}
-use Rattle.encoding.proofs.Linear.{xorOver, node-byte, length-nodeBlock}
+use Rattle.encoding.specs.Matrix.{nodeBlock}
+use Rattle.encoding.proofs.Linear.{hasBit, xorOver, node-byte, length-nodeBlock}
 use Rattle.leftover.specs.Open.{Object, Open}
 use Rattle.leftover.proofs.Digits.{xorOver-same, xorOver-zeros}
 
@@ -22,8 +22,8 @@ use Rattle.leftover.proofs.Digits.{xorOver-same, xorOver-zeros}
 pub record Cut (f : Family) (k : ℕ) (live : ℕ → Bool) (j : ℕ) : Type 0 where
   pub digit : ℕ → ℕ
   pub small : (i : ℕ) → digit i < 2
-  pub zero-live : (m : ℕ) → IsNode f k m → live m ≡ true → xorOver k (hasBlock (columnOf f k m)) digit ≡ 0
-  pub not-at : xorOver k (hasBlock (columnOf f k j)) digit ≡ 0 → ⊥
+  pub zero-live : (m : ℕ) → IsNode f k m → live m ≡ true → xorOver k (hasBit (columnOf f k m)) digit ≡ 0
+  pub not-at : xorOver k (hasBit (columnOf f k j)) digit ≡ 0 → ⊥
 
 -- the object whose data block i + 1 is `byte i` at all of its L places
 module _ (k L : ℕ) (byte : ℕ → ℕ) where
@@ -46,12 +46,12 @@ module _ (k L : ℕ) (byte : ℕ → ℕ) where
       go p (no h) = rw (List·getD-eq-default filled 0 {n = p} (omega (arith, filled-size))) (omega arith)
 
   -- a node's block holds at all of its places what the node's column gives
-  filled-block : (column : ℕ) → nodeBlock k L filled column ≡ replicate L (xorOver k (hasBlock column) byte)
+  filled-block : (column : ℕ) → nodeBlock k L filled column ≡ replicate L (xorOver k (hasBit column) byte)
   filled-block column =
       ext-getD 0 (nodeBlock k L filled column) (replicate L v) (size ∙ sym (length-replicate L v)) (λ p h. at p (rw size at h))
     where
       v : ℕ
-      v = xorOver k (hasBlock column) byte
+      v = xorOver k (hasBit column) byte
 
       size : length (nodeBlock k L filled column) ≡ L
       size = length-nodeBlock k L filled filled-size column
@@ -59,15 +59,15 @@ module _ (k L : ℕ) (byte : ℕ → ℕ) where
       at : (p : ℕ) → p < L → getD (nodeBlock k L filled column) p 0 ≡ getD (replicate L v) p 0
       at p h =
           node-byte k L filled filled-size column p h
-          ∙ xorOver-same k (hasBlock column) (λ i. getD filled (i * L + p) 0) byte (λ i l. filled-in (i * L + p) (digits-lt l h) ∙ ap byte (digits-div i h))
+          ∙ xorOver-same k (hasBit column) (λ i. getD filled (i * L + p) 0) byte (λ i l. filled-in (i * L + p) (digits-lt l h) ∙ ap byte (digits-div i h))
           ∙ sym (getD-replicate L p v 0 h)
 
 module _ {f : Family} {k : ℕ} {live : ℕ → Bool} {j : ℕ} (c : Cut f k live j) (L : ℕ) (list : List ℕ) where
   abbrev value : ℕ → ℕ
-  value column = xorOver k (hasBlock column) (c .digit)
+  value column = xorOver k (hasBit column) (c .digit)
 
   zeros : (column : ℕ) → nodeBlock k L (filled k L (λ i. 0)) column ≡ replicate L 0
-  zeros column = filled-block k L (λ i. 0) column ∙ ap (replicate L) (xorOver-zeros k (hasBlock column))
+  zeros column = filled-block k L (λ i. 0) column ∙ ap (replicate L) (xorOver-zeros k (hasBit column))
 
   pub cut-open : ((i : ℕ) → i < length list → IsNode f k (getD list i 0)) → ((i : ℕ) → i < length list → live (getD list i 0) ≡ true) → 1 ≤ L → Open f k L list j
   cut-open nodes keeps h =

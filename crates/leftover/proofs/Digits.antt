@@ -8,8 +8,7 @@ use native.Mathlib.Omega.{arith}
 use lib.Bits.{xor-comm, xor-shifted}
 use lib.Dec.{eqb}
 use lib.Pow.{pow-pos, mod-pow-add}
-use Rattle.encoding.specs.Matrix.{hasBlock}
-use Rattle.encoding.proofs.Linear.{xorOver}
+use Rattle.encoding.proofs.Linear.{hasBit, xorOver}
 
 pub xorOver-same : (k : ℕ) (test : ℕ → Bool) (f g : ℕ → ℕ) → ((i : ℕ) → i < k → f i ≡ g i) → xorOver k test f ≡ xorOver k test g
 unfolding xorOver
@@ -31,7 +30,7 @@ worth zero v h = omega arith
 worth (suc zero) v h = omega arith
 worth (suc (suc digit)) v h = absurd (omega arith)
 
-low-digits : (k x : ℕ) → xorOver k (hasBlock x) (λ i. 2 ^ i) ≡ x % 2 ^ k
+low-digits : (k x : ℕ) → xorOver k (hasBit x) (λ i. 2 ^ i) ≡ x % 2 ^ k
 unfolding xorOver
 low-digits zero x = omega arith
 low-digits (suc k) x =
@@ -40,5 +39,5 @@ low-digits (suc k) x =
     ∙ sym (mod-pow-add x 1 k) ∙ ap (λ (m : ℕ). x % 2 ^ m) (omega arith))
 
 -- a number of k digits is the XOR of what its digits are worth
-pub all-digits : (k x : ℕ) → x < 2 ^ k → xorOver k (hasBlock x) (λ i. 2 ^ i) ≡ x
+pub all-digits : (k x : ℕ) → x < 2 ^ k → xorOver k (hasBit x) (λ i. 2 ^ i) ≡ x
 all-digits k x h = low-digits k x ∙ mod-eq-of-lt h

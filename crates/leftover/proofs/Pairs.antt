@@ -15,8 +15,7 @@ use Rattle.families.specs.Families.{KInRange, IsNode, columnOf, nodeOf}
 use Rattle.families.specs.Inner.{unit}
 use Rattle.families.proofs.Laws.{node-is}
 use Rattle.families.proofs.PairLaws.{PairOf, pair-of, Placed, placed, placed-column, placeOf, pair-count}
-use Rattle.encoding.specs.Matrix.{hasBlock}
-use Rattle.encoding.proofs.Linear.{xorOver, xorOver-none, xorOver-xor, xorOver-unit}
+use Rattle.encoding.proofs.Linear.{hasBit, xorOver, xorOver-none, xorOver-xor, xorOver-unit}
 use Rattle.planning.specs.Pairs.{NoPairLeft}
 use Rattle.leftover.proofs.Cut.{Cut}
 use Rattle.leftover.proofs.Known.{known, known-zero, known-live, known-xor, missing-unknown}
@@ -69,16 +68,16 @@ module _ (k : ℕ) (side : ℕ → ℕ) where
   abbrev digit : ℕ → ℕ
   digit i = bitXor (side (suc i)) (side 0)
 
-  at-unit : (a : ℕ) → a ≤ k → xorOver k (hasBlock (unit a)) digit ≡ bitXor (side a) (side 0)
-  at-unit zero h = xorOver-none k (hasBlock 0) digit (λ i l. rw (zero-div (2 ^ i))) ∙ sym (xor-self (side 0))
+  at-unit : (a : ℕ) → a ≤ k → xorOver k (hasBit (unit a)) digit ≡ bitXor (side a) (side 0)
+  at-unit zero h = xorOver-none k (hasBit 0) digit (λ i l. rw (zero-div (2 ^ i))) ∙ sym (xor-self (side 0))
   at-unit (suc a) h = xorOver-unit k a digit h
 
-  at-both : (a b : ℕ) → a ≤ k → b ≤ k → xorOver k (hasBlock (both a b)) digit ≡ bitXor (side a) (side b)
+  at-both : (a b : ℕ) → a ≤ k → b ≤ k → xorOver k (hasBit (both a b)) digit ≡ bitXor (side a) (side b)
   at-both a b ha hb =
       xorOver-xor k (unit a) (unit b) digit ∙ ap₂ bitXor (at-unit a ha) (at-unit b hb) ∙ xor-middle (side a) (side 0) (side b) (side 0)
       ∙ ap (bitXor (bitXor (side a) (side b))) (xor-self (side 0)) ∙ xor-zero-r (bitXor (side a) (side b))
 
-  at-node : {j : ℕ} (p : PairOf k j) → xorOver k (hasBlock (columnOf WeightTwo k j)) digit ≡ bitXor (side (p .smaller)) (side (p .larger))
+  at-node : {j : ℕ} (p : PairOf k j) → xorOver k (hasBit (columnOf WeightTwo k j)) digit ≡ bitXor (side (p .smaller)) (side (p .larger))
   at-node p = rw (column-both p) (at-both (p .smaller) (p .larger) (smaller-within p) (p .within))
 
 -- ---- the class of a number
@@ -126,7 +125,7 @@ module _ (k : ℕ) (r : KInRange WeightTwo k) (live : ℕ → Bool) (done : NoPa
       p : PairOf k j
       p = pair-of k j (n .first) (n .last)
 
-      at-missing : xorOver k (hasBlock (columnOf WeightTwo k j)) (digit k (side (p .smaller))) ≡ 1
+      at-missing : xorOver k (hasBit (columnOf WeightTwo k j)) (digit k (side (p .smaller))) ≡ 1
       at-missing =
           let own : linked (p .smaller) (p .smaller) ≡ true = rw (xor-self (unit (p .smaller))) (known-zero WeightTwo k r live) in
           let other : linked (p .smaller) (p .larger) ≡ false = rw (column-both p) at (missing-unknown WeightTwo k r live j n l) in

@@ -9,8 +9,7 @@ use native.Mathlib.Omega.{arith}
 use lib.Bits.{bitXor, xor-comm, xor-self, xor-zero-r}
 use Rattle.base.proofs.Tests.{not-both}
 use Rattle.base.proofs.Xor.{xor-assoc, xor-left-comm, xor-middle}
-use Rattle.encoding.specs.Matrix.{hasBlock}
-use Rattle.encoding.proofs.Linear.{xorOver}
+use Rattle.encoding.proofs.Linear.{hasBit, xorOver}
 use Rattle.leftover.proofs.Digits.{all-digits}
 use Rattle.leftover.proofs.Tests.{or-either, choice-below}
 
@@ -149,8 +148,8 @@ module _ (v : ℕ) (M : ℕ → Bool) (a : Apart v M) where
 pub record Separated (k v : ℕ) (S : ℕ → Bool) : Type 0 where
   pub digit : ℕ → ℕ
   pub small : (i : ℕ) → digit i < 2
-  pub zero-on : (x : ℕ) → x < 2 ^ k → S x ≡ true → xorOver k (hasBlock x) digit ≡ 0
-  pub not-at : xorOver k (hasBlock v) digit ≡ 0 → ⊥
+  pub zero-on : (x : ℕ) → x < 2 ^ k → S x ≡ true → xorOver k (hasBit x) digit ≡ 0
+  pub not-at : xorOver k (hasBit v) digit ≡ 0 → ⊥
 
 pub separate : (k v : ℕ) (S : ℕ → Bool) → v < 2 ^ k → Above v S → Separated k v S
 separate k v S h b =
@@ -178,14 +177,14 @@ separate k v S h b =
         go false e (inl p) = absurd (not-both (M (2 ^ i)) p e)
         go false e (inr p) = beside refl p
 
-    side : (x : ℕ) → x < 2 ^ k → Side v M x (xorOver k (hasBlock x) digit)
-    side x l = rw (all-digits k x l) at (side-over v M (g .above .apart) k (hasBlock x) (λ i. 2 ^ i) digit unit)
+    side : (x : ℕ) → x < 2 ^ k → Side v M x (xorOver k (hasBit x) digit)
+    side x l = rw (all-digits k x l) at (side-over v M (g .above .apart) k (hasBit x) (λ i. 2 ^ i) digit unit)
 
-    at-zero : (x : ℕ) → M x ≡ true → Side v M x (xorOver k (hasBlock x) digit) → xorOver k (hasBlock x) digit ≡ 0
+    at-zero : (x : ℕ) → M x ≡ true → Side v M x (xorOver k (hasBit x) digit) → xorOver k (hasBit x) digit ≡ 0
     at-zero x p (inside e s) = e
     at-zero x p (beside e s) =
         absurd (not-both (M v) (ap M (sym (xor-undo v x)) ∙ g .above .apart .closed (bitXor v x) x s p) (g .above .apart .leaves))
 
-    at-v : Side v M v (xorOver k (hasBlock v) digit) → xorOver k (hasBlock v) digit ≡ 0 → ⊥
+    at-v : Side v M v (xorOver k (hasBit v) digit) → xorOver k (hasBit v) digit ≡ 0 → ⊥
     at-v (inside e s) z = not-both (M v) s (g .above .apart .leaves)
     at-v (beside e s) z = omega arith
