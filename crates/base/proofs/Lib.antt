@@ -4,4 +4,4 @@ pub mod Tests
 pub mod Fill
 pub mod First
 pub mod RangeLaws
-pub mod FlatMap
+pub mod ListLaws

@@ -1,49 +1,35 @@
--- A walk over the numbers from j on: what is still to be seen of them, and what was seen, one number more.
+-- The numbers of a range that pass a test: those of one range after another, from the first of them on, and how many they are.
 -- Assumes nothing.
 use mathlib.Core.Path.{_≡_, refl, sym, ap, _∙_}
-use mathlib.Core.Bool.{Bool, true, false, cond, not, _||_}
+use mathlib.Core.Bool.{Bool, true, false, cond, not}
 use mathlib.Core.List.{List, [], _∷_, _++_, append-nil}
 use mathlib.Core.Logic.{_⊎_, inl, inr}
 use Prim.Native.Nat.{ℕ, zero, suc, _+_, _-_, _≤_, _<_}
-use native.Mathlib.Nat.{add-zero, add-suc, suc-add, eq-zero-or-pos}
-use native.Mathlib.Numerals.{add-one}
+use native.Mathlib.Nat.{zero-add, add-zero, add-suc, suc-add, eq-zero-or-pos}
+use native.Mathlib.Decide.{ℕ-discrete}
 use native.Mathlib.Omega.{arith}
 use lib.ListN.{length}
-use Rattle.base.specs.Ranges.{firstFrom, someFrom, thoseFrom, countFrom}
+use Rattle.base.specs.Ranges.{firstFrom, thoseFrom}
 use Rattle.base.proofs.First.{first-zero}
 
 module _ (test : ℕ → Bool) where
-  -- ---- whether one passes, of the numbers from j on that are below an end
+  -- ---- those that pass, of one range after the other
 
-  pub some-step : (end j : ℕ) → j < end → someFrom test j (end - j) ≡ (test j || someFrom test (j + 1) (end - (j + 1)))
-  unfolding someFrom
-  some-step end j h =
-      let e : end - j ≡ suc (end - (j + 1)) = omega arith in
-      ap (someFrom test j) e ∙ rw add-one
-
-  pub some-end : (end j : ℕ) → end ≤ j → someFrom test j (end - j) ≡ false
-  unfolding someFrom
-  some-end end j h =
-      let e : end - j ≡ 0 = omega arith in
-      ap (someFrom test j) e
-
-  -- ---- those that pass, of 1 to j
-
-  -- the last of the numbers comes last
-  those-last : (j m : ℕ) → thoseFrom test j (suc m) ≡ thoseFrom test j m ++ cond (test (j + m)) ((j + m) ∷ []) []
+  pub those-append : (j m n : ℕ) → thoseFrom test j (m + n) ≡ thoseFrom test j m ++ thoseFrom test (j + m) n
   unfolding thoseFrom
-  those-last j zero = rw (add-zero j)
-  those-last j (suc m) =
-      ap (λ (later : List ℕ). cond (test j) (j ∷ later) later) (those-last (suc j) m) ∙ rw (add-suc j m, suc-add j m) (front (test j) (thoseFrom test (suc j) m) _)
+  those-append j zero n = rw (zero-add n, add-zero j)
+  those-append j (suc m) n =
+      rw (suc-add m n, add-suc j m, those-append (suc j) m n, suc-add j m) (front (test j) (thoseFrom test (suc j) m) (thoseFrom test (suc (j + m)) n))
     where
       front : (b : Bool) (xs ys : List ℕ) → cond b (j ∷ xs ++ ys) (xs ++ ys) ≡ cond b (j ∷ xs) xs ++ ys
       front true xs ys = refl
       front false xs ys = refl
 
   those-next : (j : ℕ) → thoseFrom test 1 (j + 1) ≡ thoseFrom test 1 j ++ cond (test (j + 1)) ((j + 1) ∷ []) []
+  unfolding thoseFrom
   those-next j =
       let e : 1 + j ≡ j + 1 = omega arith in
-      ap (thoseFrom test 1) (add-one j) ∙ those-last 1 j ∙ ap (λ (x : ℕ). thoseFrom test 1 j ++ cond (test x) (x ∷ []) []) e
+      those-append 1 j 1 ∙ rw e
 
   pub those-more : (j : ℕ) → test (j + 1) ≡ true → thoseFrom test 1 (j + 1) ≡ thoseFrom test 1 j ++ (j + 1) ∷ []
   those-more j h = those-next j ∙ simp h
@@ -89,23 +75,32 @@ module _ (test : ℕ → Bool) where
   -- ---- how many
 
   -- as many do not pass as are not among those that do
-  pub others-count : (j m : ℕ) → countFrom (λ i. not (test i)) j m + length (thoseFrom test j m) ≡ m
-  unfolding countFrom thoseFrom
+  pub others-count : (j m : ℕ) → length (thoseFrom (λ i. not (test i)) j m) + length (thoseFrom test j m) ≡ m
+  unfolding thoseFrom
   others-count j zero = refl
-  others-count j (suc m) = go (test j) (others-count (suc j) m)
+  others-count j (suc m) = go (test j) (thoseFrom (λ i. not (test i)) (suc j) m) (thoseFrom test (suc j) m) (others-count (suc j) m)
     where
-      later : ℕ
-      later = countFrom (λ i. not (test i)) (suc j) m
+      go : (b : Bool) (others those : List ℕ) → length others + length those ≡ m → length (cond (not b) (j ∷ others) others) + length (cond b (j ∷ those) those) ≡ suc m
+      go true others those e = omega arith
+      go false others those e = omega arith
 
-      those : List ℕ
-      those = thoseFrom test (suc j) m
-
-      go : (b : Bool) → later + length those ≡ m → cond (not b) (suc later) later + length (cond b (j ∷ those) those) ≡ suc m
-      go true e = omega arith
-      go false e = omega arith
-
--- tests that agree count alike
-pub same-from : (s t : ℕ → Bool) (j m : ℕ) → ((i : ℕ) → j ≤ i → i < j + m → s i ≡ t i) → countFrom s j m ≡ countFrom t j m
-unfolding countFrom
+-- tests that agree pass alike
+pub same-from : (s t : ℕ → Bool) (j m : ℕ) → ((i : ℕ) → j ≤ i → i < j + m → s i ≡ t i) → thoseFrom s j m ≡ thoseFrom t j m
+unfolding thoseFrom
 same-from s t j zero h = refl
 same-from s t j (suc m) h = rw (h j (omega arith) (omega arith), same-from s t (suc j) m (λ i a b. h i (omega arith) (omega arith)))
+
+-- two tests that differ at x alone, where the first passes: it passes once more
+module _ (p q : ℕ → Bool) (x : ℕ) (passes : p x ≡ true) (fails : q x ≡ false) (others : (i : ℕ) → (i ≡ x → ⊥) → p i ≡ q i) where
+  pub count-one : (j m : ℕ) → j ≤ x → x < j + m → length (thoseFrom p j m) ≡ suc (length (thoseFrom q j m))
+  unfolding thoseFrom
+  count-one j zero l h = absurd (omega arith)
+  count-one j (suc m) l h = go (ℕ-discrete j x) (λ g. count-one (suc j) m g (omega arith))
+    where
+      go : Dec (j ≡ x) → (suc j ≤ x → length (thoseFrom p (suc j) m) ≡ suc (length (thoseFrom q (suc j) m))) → length (thoseFrom p j (suc m)) ≡ suc (length (thoseFrom q j (suc m)))
+      go (yes e) later = rw (e, passes, fails, same-from p q (suc x) m (λ i a b. others i (λ g. omega arith)))
+      go (no e) later = rw (others j e) (push (q j) (thoseFrom p (suc j) m) (thoseFrom q (suc j) m) (later (omega arith)))
+        where
+          push : (b : Bool) (s t : List ℕ) → length s ≡ suc (length t) → length (cond b (j ∷ s) s) ≡ suc (length (cond b (j ∷ t) t))
+          push true s t g = ap suc g
+          push false s t g = g

@@ -1,6 +1,6 @@
 -- Tests with an answer true or false, and tests that are computed at every number below a bound.
 -- Assumes nothing.
-use mathlib.Core.Path.{_≡_, refl, ap, _∙_}
+use mathlib.Core.Path.{_≡_, refl, sym, ap, _∙_}
 use mathlib.Core.Bool.{Bool, true, false, _&&_, _||_, true≢false, false≢true}
 use mathlib.Core.Logic.{_⊎_, ⊎-elim}
 use Prim.Native.Nat.{ℕ, zero, suc, _<_}
@@ -29,6 +29,12 @@ not-both false h k = false≢true h
 pub is-false : (b : Bool) → (b ≡ true → ⊥) → b ≡ false
 is-false true h = absurd (h refl)
 is-false false h = refl
+
+-- each passes where the other does
+pub same-answer : (a b : Bool) → (a ≡ true → b ≡ true) → (b ≡ true → a ≡ true) → a ≡ b
+same-answer true b to from = sym (to refl)
+same-answer false true to from = from refl
+same-answer false false to from = refl
 
 -- the test passes at every number below the bound
 unfoldable pub allBelow : (ℕ → Bool) → ℕ → Bool

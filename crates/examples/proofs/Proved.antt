@@ -9,8 +9,9 @@ use borrow.Author.Tests.{le-ltb}
 use lib.Dec.{ltb}
 use lib.ListN.{length, getD, drop}
 use lib.Seq.{ext-getD}
-use Rattle.base.specs.Ranges.{firstFrom, someFrom, thoseFrom, countFrom, listFrom}
+use Rattle.base.specs.Ranges.{firstFrom, thoseFrom}
 use Rattle.families.specs.Families.{familyOf, nodeCount, columnOf, pairAt, areRelated}
+use Rattle.families.specs.Inner.{listFrom}
 use Rattle.families.proofs.TableLaws.{length-listFrom, getD-listFrom}
 use Rattle.blocks.specs.Blocks.{joined, xorBytes, blockOf, withBlock}
 use Rattle.checks.specs.Checks.{firstMet}
@@ -142,7 +143,7 @@ _&_ : {A B : Type 0} → A → B → A × B
 a & b = (a, b)
 
 computed : Every Computed table
-unfolding started refusalLine encodeChecks parameterChecks firstMet nodesBuffer joined nodeBlock columnOf nodeCount xorBytes zipWith startChecks checkedBox boxChecks someOutside rises setLive noStart liveOutside someFrom planOf roundsFrom isRepaired smallerNode largerNode firstFrom areRelated pairAt stepBytes lastRound getLastD nodesLeft countFrom thoseFrom someMissing stepsIn placeIn listFrom readBox nodesRead readChecks withBodies withBlock blockOf bodyChecks bodyOf writeChecks nodesChecks written outWritten boxOf flatMap stepChecks stepped nodesStepped listingOf answerOf listingIn firstLine stepLine lastLine field decimal
+unfolding started refusalLine encodeChecks parameterChecks firstMet nodesBuffer joined nodeBlock columnOf nodeCount xorBytes zipWith startChecks checkedBox boxChecks someOutside rises setLive noStart liveOutside planOf roundsFrom isRepaired smallerNode largerNode firstFrom areRelated pairAt stepBytes lastRound getLastD nodesLeft thoseFrom someMissing stepsIn placeIn listFrom readBox nodesRead readChecks withBodies withBlock blockOf bodyChecks bodyOf writeChecks nodesChecks written outWritten boxOf flatMap stepChecks stepped nodesStepped listingOf answerOf listingIn firstLine stepLine lastLine field decimal
 computed =
     (refl, refl)
     & (refl, λ byte. (refl, refl))

@@ -13,8 +13,7 @@ use lib.ListN.{length, getD, set, replicate, length-set}
 use lib.Seq.{ext-getD, getD-set-same, getD-set-other}
 use Rattle.families.proofs.Laws.{few}
 use Rattle.families.specs.Families.{KInRange, IsNode, nodeCount, columnOf}
-use Rattle.families.specs.Inner.{columnTable}
-use Rattle.base.specs.Ranges.{listFrom}
+use Rattle.families.specs.Inner.{listFrom, columnTable}
 use Rattle.families.specs.declared.Family.{Family}
 
 module _ {A : Type 0} (g : ℕ → A) where

@@ -7,7 +7,7 @@ use mathlib.Core.Logic.{_↔_}
 use Prim.Native.Nat.{ℕ, _≤_, _<_}
 use borrow.Author.Tests.{not-true}
 use lib.ListN.{length, getD}
-use Rattle.base.specs.Ranges.{countFrom}
+use Rattle.base.specs.Ranges.{thoseFrom}
 use Rattle.base.proofs.Tests.{is-false}
 use Rattle.families.specs.declared.Family.{Family}
 use Rattle.families.specs.declared.Family.the-variants.{Simplex, WeightTwo, Tetrahedron}
@@ -32,7 +32,7 @@ module _ (f : Family) (k : ℕ) (r : KInRange f k) (list : List ℕ) (nodes : (i
     (λ o. is-false (live j) (λ l. reached-shut o (ended .reached j n l))),
   )
 
-  pub missing-count : OpenCount f k L list (countFrom (λ j. not (live j)) 1 (nodeCount f k))
+  pub missing-count : OpenCount f k L list (length (thoseFrom (λ j. not (live j)) 1 (nodeCount f k)))
   missing-count =
       record {
         test = λ j. not (live j);

@@ -9,6 +9,7 @@ use native.Mathlib.Decide.{decLt}
 use native.Mathlib.Omega.{arith}
 use lib.Bits.{bitXor, xor-comm, xor-self, xor-zero-r, xor-shifted, xor-lt}
 use lib.Pow.{pow-lt}
+use Rattle.base.proofs.Tests.{same-answer}
 use Rattle.base.proofs.Xor.{xor-assoc, xor-cancel, xor-middle}
 use Rattle.families.specs.declared.Family.the-variants.{WeightTwo}
 use Rattle.families.specs.Families.{KInRange, IsNode, columnOf, nodeOf}
@@ -19,7 +20,7 @@ use Rattle.encoding.proofs.Linear.{hasBit, xorOver, xorOver-none, xorOver-xor, 
 use Rattle.planning.specs.Pairs.{NoPairLeft}
 use Rattle.leftover.proofs.Cut.{Cut}
 use Rattle.leftover.proofs.Known.{known, known-zero, known-live, known-xor, missing-unknown}
-use Rattle.leftover.proofs.Tests.{same-answer, choice-below}
+use Rattle.leftover.proofs.Tests.{choice-below}
 
 -- ---- columns of two numbers: a node joins two of the numbers 0 to k
 

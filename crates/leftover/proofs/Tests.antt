@@ -1,6 +1,6 @@
--- Which of two tests passes, when two tests give one answer, and a number chosen by a test.
+-- Which of two tests passes, and a number chosen by a test.
 -- Assumes nothing.
-use mathlib.Core.Path.{_≡_, refl, sym}
+use mathlib.Core.Path.{_≡_, refl}
 use mathlib.Core.Bool.{Bool, true, false, cond, _||_}
 use mathlib.Core.Logic.{_⊎_, inl, inr}
 use Prim.Native.Nat.{ℕ, _<_}
@@ -8,12 +8,6 @@ use Prim.Native.Nat.{ℕ, _<_}
 pub or-either : (a b : Bool) → (a || b) ≡ true → (a ≡ true) ⊎ (b ≡ true)
 or-either true b h = inl refl
 or-either false b h = inr h
-
--- each passes where the other does
-pub same-answer : (a b : Bool) → (a ≡ true → b ≡ true) → (b ≡ true → a ≡ true) → a ≡ b
-same-answer true b to from = sym (to refl)
-same-answer false true to from = from refl
-same-answer false false to from = refl
 
 pub choice-below : (t : Bool) {a b n : ℕ} → a < n → b < n → cond t a b < n
 choice-below true h g = h

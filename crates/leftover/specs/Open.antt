@@ -5,7 +5,7 @@ use mathlib.Core.List.{List}
 use mathlib.Core.Logic.{_↔_}
 use Prim.Native.Nat.{ℕ, _*_, _<_}
 use lib.ListN.{length, getD}
-use Rattle.base.specs.Ranges.{countFrom}
+use Rattle.base.specs.Ranges.{thoseFrom}
 use Rattle.families.specs.declared.Family.{Family}
 use Rattle.families.specs.Families.{IsNode, nodeCount, columnOf}
 use Rattle.encoding.specs.Matrix.{nodeBlock}
@@ -24,12 +24,8 @@ pub record Open (f : Family) (k L : ℕ) (list : List ℕ) (j : ℕ) : Type 0 wh
   pub alike : (i : ℕ) → i < length list → nodeBlock k L one (columnOf f k (getD list i 0)) ≡ nodeBlock k L other (columnOf f k (getD list i 0))
   pub differ : nodeBlock k L one (columnOf f k j) ≡ nodeBlock k L other (columnOf f k j) → ⊥
 
--- a test that passes at the open nodes of 1 to n and at no other of them
-abbrev pub Decides : Family → ℕ → ℕ → List ℕ → (ℕ → Bool) → Type 0
-Decides f k L list test = (j : ℕ) → IsNode f k j → (test j ≡ true) ↔ Open f k L list j
-
--- the number of open nodes, counted over 1 to n by such a test
+-- the number of open nodes: of 1 to n a test passes at those that are open and at no other, and so many pass it
 pub record OpenCount (f : Family) (k L : ℕ) (list : List ℕ) (number : ℕ) : Type 0 where
   pub test : ℕ → Bool
-  pub decides : Decides f k L list test
-  pub counts : countFrom test 1 (nodeCount f k) ≡ number
+  pub decides : (j : ℕ) → IsNode f k j → (test j ≡ true) ↔ Open f k L list j
+  pub counts : length (thoseFrom test 1 (nodeCount f k)) ≡ number

@@ -9,7 +9,7 @@ use lib.ListN.{length, getD, drop, take-append-drop}
 use lib.Seq.{getD-drop}
 use mir.Syntax.{w8}
 use mir.Val.{Fits}
-use Rattle.base.proofs.FlatMap.{flatMap-append}
+use Rattle.base.proofs.ListLaws.{flatMap-append}
 use Rattle.planning.specs.Plan.{Step}
 use Rattle.planning.specs.Made.{stepsIn}
 use Rattle.listing.specs.Inner.{Put}

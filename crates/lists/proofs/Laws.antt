@@ -2,17 +2,18 @@
 -- Assumes nothing.
 use mathlib.Core.Path.{_≡_, refl, sym, ap, ap₂, _∙_}
 use mathlib.Core.Bool.{Bool, true, false, cond, _||_, false≢true, or-false}
-use mathlib.Core.List.{List, [], _∷_}
+use mathlib.Core.List.{List, [], _∷_, _++_}
 use mathlib.Core.Logic.{_⊎_, inl, inr, ⊎-elim}
 use Prim.Native.Nat.{ℕ, zero, suc, _+_, _-_, _≤_, _<_}
 use native.Mathlib.Nat.{eq-or-lt-of-le}
+use native.Mathlib.Decide.{ℕ-discrete}
 use native.Mathlib.Omega.{arith}
-use borrow.Author.Tests.{ltb-true, ltb-false, lt-ltb, eqb-true, eqb-false, eq-eqb, ne-eqb}
+use borrow.Author.Tests.{ltb-true, lt-ltb, eqb-true, eqb-false, eq-eqb, ne-eqb}
 use lib.Dec.{ltb, eqb, leb·suc-suc}
 use lib.ListN.{length, getD, set, length-set, getD-replicate}
 use lib.Seq.{getD-set-same, getD-set-other, ext-getD}
-use Rattle.base.specs.Ranges.{someFrom, thoseFrom}
-use Rattle.base.proofs.Tests.{and-left, and-right, and-both, or-neither, is-false}
+use Rattle.base.specs.Ranges.{thoseFrom}
+use Rattle.base.proofs.Tests.{and-left, and-right, and-both, or-neither, same-answer}
 use Rattle.checks.specs.Checks.{firstMet}
 use Rattle.checks.specs.Claims.{NoneMet}
 use Rattle.checks.proofs.Laws.{accepted, inside, outside-no}
@@ -35,6 +36,13 @@ outside-both n x list o =
 outside-cons : (n x : ℕ) (list : List ℕ) → 1 ≤ x → x ≤ n → someOutside n list ≡ false → someOutside n (x ∷ list) ≡ false
 unfolding someOutside
 outside-cons n x list l h o = simp (outside-no 1 n x l h, o)
+
+pub inside-append : (n : ℕ) (s t : List ℕ) → someOutside n s ≡ false → someOutside n (s ++ t) ≡ someOutside n t
+unfolding someOutside
+inside-append n [] t o = refl
+inside-append n (x ∷ s) t o =
+    let p = or-neither (outside 1 n x) (someOutside n s) o in
+    simp (p .0) (inside-append n s t (p .1))
 
 pub outside-none : (n : ℕ) (list : List ℕ) → someOutside n list ≡ false → (i : ℕ) → i < length list → (1 ≤ getD list i 0) × (getD list i 0 ≤ n)
 outside-none n [] o i h = absurd (omega arith)
@@ -103,27 +111,6 @@ set-live marks (x ∷ list) j l o =
 pub live-of-list : (list : List ℕ) (j : ℕ) → j < 256 → someOutside 255 list ≡ false → isLive (setLive noneLive list) j ≡ isIn list j
 live-of-list list j h o = set-live noneLive list j refl o ∙ ap (λ (b : Bool). isIn list j || b) (getD-replicate 256 j false false h) ∙ or-false (isIn list j)
 
--- ---- marks that are live, of m from j on
-
-some-none : (marks : List Bool) (j m : ℕ) → ((i : ℕ) → j ≤ i → i < j + m → isLive marks i ≡ false) → someFrom (isLive marks) j m ≡ false
-unfolding someFrom
-some-none marks j zero h = refl
-some-none marks j (suc m) h = simp (h j (omega arith) (omega arith), some-none marks (suc j) m (λ i l g. h i (omega arith) (omega arith)))
-
-none-live : (marks : List Bool) (j m : ℕ) → someFrom (isLive marks) j m ≡ false → (i : ℕ) → j ≤ i → i < j + m → isLive marks i ≡ false
-unfolding someFrom
-none-live marks j zero s i l h = absurd (omega arith)
-none-live marks j (suc m) s i l h =
-    let p = or-neither (isLive marks j) (someFrom (isLive marks) (suc j) m) s in
-    ⊎-elim (λ (e : j ≡ i). rw (sym e) (p .0)) (λ (g : j < i). none-live marks (suc j) m (p .1) i g (omega arith)) (eq-or-lt-of-le l)
-
-pub list-outside-none : (n : ℕ) (list : List ℕ) → n ≤ 255 → someOutside n list ≡ false → liveOutside n (setLive noneLive list) ≡ false
-unfolding liveOutside
-list-outside-none n list h o = simp (missed 0 (omega arith) (λ l. omega arith), some-none (setLive noneLive list) (n + 1) (255 - n) (λ i l g. missed i (omega arith) (λ p. omega arith)))
-  where
-    missed : (i : ℕ) → i < 256 → ((1 ≤ i) × (i ≤ n) → ⊥) → isLive (setLive noneLive list) i ≡ false
-    missed i g out = live-of-list list i g (outside-more n 255 list h o) ∙ is-false (isIn list i) (λ t. out (has-inside n list i o t))
-
 -- ---- lists that rise
 
 -- the list rises, and starts at j or above
@@ -177,12 +164,14 @@ module _ (marks : List Bool) where
       let h = live-few (suc j) m in
       either (λ list. length list ≤ suc m) (isLive marks j) j (thoseFrom (isLive marks) (suc j) m) (λ t. omega arith) (λ f. omega arith)
 
-  live-inside : (n j m : ℕ) → 1 ≤ j → j + m ≤ n + 1 → someOutside n (thoseFrom (isLive marks) j m) ≡ false
+  -- where every live one lies in 1 to n, none is outside
+  live-inside : (n j m : ℕ) → ((i : ℕ) → j ≤ i → i < j + m → isLive marks i ≡ true → (1 ≤ i) × (i ≤ n)) → someOutside n (thoseFrom (isLive marks) j m) ≡ false
   unfolding thoseFrom someOutside
-  live-inside n j zero l h = refl
-  live-inside n j (suc m) l h =
-      let o = live-inside n (suc j) m (omega arith) (omega arith) in
-      either (λ list. someOutside n list ≡ false) (isLive marks j) j (thoseFrom (isLive marks) (suc j) m) (λ t. outside-cons n j (thoseFrom (isLive marks) (suc j) m) l (omega arith) o) (λ f. o)
+  live-inside n j zero h = refl
+  live-inside n j (suc m) h =
+      let o = live-inside n (suc j) m (λ i l g. h i (omega arith) (omega arith)) in
+      either (λ list. someOutside n list ≡ false) (isLive marks j) j (thoseFrom (isLive marks) (suc j) m)
+      (λ t. let p = h j (omega arith) (omega arith) t in outside-cons n j (thoseFrom (isLive marks) (suc j) m) (p .0) (p .1) o) (λ f. o)
 
   live-rise : (j m : ℕ) → RisesFrom j (thoseFrom (isLive marks) j m)
   unfolding thoseFrom
@@ -216,13 +205,34 @@ module _ (marks : List Bool) where
   live-nodes-few n = live-few 1 n
 
   pub live-nodes-inside : (n : ℕ) → someOutside n (liveNodes marks n) ≡ false
-  live-nodes-inside n = live-inside n 1 n (omega arith) (omega arith)
+  live-nodes-inside n = live-inside n 1 n (λ i l g t. (l, omega arith))
 
   pub live-nodes-rise : (n : ℕ) → rises (liveNodes marks n) ≡ true
   live-nodes-rise n = from-rises 1 (liveNodes marks n) (live-rise 1 n)
 
   pub live-nodes-live : (n : ℕ) → someMissing marks (liveNodes marks n) ≡ false
   live-nodes-live n = live-live 1 n
+
+-- ---- live marks outside 1 to n
+
+-- where there is none, every live number lies in 1 to n
+live-within : (n : ℕ) (marks : List Bool) → liveOutside n marks ≡ false → (i : ℕ) → i < 256 → isLive marks i ≡ true → (1 ≤ i) × (i ≤ n)
+unfolding liveOutside
+live-within n marks o i h t = has-inside n (thoseFrom (isLive marks) 0 256) i o (has-live marks 0 256 i (omega arith) (omega arith) ∙ t)
+
+pub list-outside-none : (n : ℕ) (list : List ℕ) → n ≤ 255 → someOutside n list ≡ false → liveOutside n (setLive noneLive list) ≡ false
+unfolding liveOutside
+list-outside-none n list h o =
+    live-inside (setLive noneLive list) n 0 256 (λ i l g t. has-inside n list i o (sym (live-of-list list i (omega arith) (outside-more n 255 list h o)) ∙ t))
+
+-- a node set live is not outside
+pub set-outside-none : (n : ℕ) (marks : List Bool) (j : ℕ) → 1 ≤ j → j ≤ n → liveOutside n marks ≡ false → liveOutside n (set marks j true) ≡ false
+unfolding liveOutside
+set-outside-none n marks j h g o = live-inside (set marks j true) n 0 256 (λ i l m t. go i (omega arith) t (ℕ-discrete i j))
+  where
+    go : (i : ℕ) → i < 256 → isLive (set marks j true) i ≡ true → Dec (i ≡ j) → (1 ≤ i) × (i ≤ n)
+    go i l t (yes e) = (omega arith, omega arith)
+    go i l t (no e) = live-within n marks o i l (sym (getD-set-other marks j i true false e) ∙ t)
 
 -- ---- a rising list and its marks
 
@@ -253,25 +263,17 @@ live-nodes-of-list n list h o r =
     live-are (setLive noneLive list) n list 1 n (omega arith) (rises-from n list o r) o (λ i l g. live-of-list list i (omega arith) (outside-more n 255 list h o))
 
 pub marks-of-live-nodes : (n : ℕ) (marks : List Bool) → length marks ≡ 256 → n ≤ 255 → liveOutside n marks ≡ false → setLive noneLive (liveNodes marks n) ≡ marks
-unfolding liveOutside
 marks-of-live-nodes n marks l h o =
     ext-getD false (setLive noneLive (liveNodes marks n)) marks (length-setLive noneLive (liveNodes marks n) ∙ sym l)
     (λ i g.
     let k : i < 256 = omega (arith, length-setLive noneLive (liveNodes marks n)) in
     live-of-list (liveNodes marks n) i k (outside-more n 255 (liveNodes marks n) h (live-nodes-inside marks n)) ∙ same i k)
   where
-    p : (isLive marks 0 ≡ false) × (someFrom (isLive marks) (n + 1) (255 - n) ≡ false)
-    p = or-neither (isLive marks 0) (someFrom (isLive marks) (n + 1) (255 - n)) o
+    node : (i : ℕ) → (1 ≤ i) × (i ≤ n) → isIn (liveNodes marks n) i ≡ isLive marks i
+    node i w = has-live marks 1 n i (omega arith) (omega arith)
 
     same : (i : ℕ) → i < 256 → isIn (liveNodes marks n) i ≡ isLive marks i
-    same zero g = has-below 1 (liveNodes marks n) 0 (live-rise marks 1 n) (omega arith) ∙ sym (p .0)
-    same (suc i) g = go (ltb n (suc i)) refl
-      where
-        go : (b : Bool) → ltb n (suc i) ≡ b → isIn (liveNodes marks n) (suc i) ≡ isLive marks (suc i)
-        go true e =
-            let k = ltb-true n (suc i) e in
-            is-false (isIn (liveNodes marks n) (suc i)) (λ t. omega (arith, has-inside n (liveNodes marks n) (suc i) (live-nodes-inside marks n) t))
-            ∙ sym (none-live marks (n + 1) (255 - n) (p .1) (suc i) (omega arith) (omega arith))
-        go false e =
-            let k = ltb-false n (suc i) e in
-            has-live marks 1 n (suc i) (omega arith) (omega arith)
+    same i g =
+        same-answer (isIn (liveNodes marks n) i) (isLive marks i)
+        (λ t. sym (node i (has-inside n (liveNodes marks n) i (live-nodes-inside marks n) t)) ∙ t)
+        (λ t. node i (live-within n marks o i g t) ∙ t)

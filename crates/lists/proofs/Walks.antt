@@ -1,7 +1,7 @@
--- What a walk has still to see of a list from a place on.
+-- What a walk has still to see of a list from a place on, or of the marks from a number on.
 -- Assumes nothing.
-use mathlib.Core.Path.{_≡_, refl, sym, _∙_}
-use mathlib.Core.Bool.{Bool, true, false, cond, not, _&&_, _||_}
+use mathlib.Core.Path.{_≡_, refl, sym, ap, _∙_}
+use mathlib.Core.Bool.{Bool, true, false, cond, not, _&&_, _||_, and-true}
 use mathlib.Core.List.{List, [], _∷_, _++_, append-assoc}
 use Prim.Native.Nat.{ℕ, zero, suc, _+_, _-_, _≤_, _<_}
 use native.Mathlib.Numerals.{add-one}
@@ -9,8 +9,12 @@ use native.Mathlib.Omega.{arith}
 use lib.Dec.{ltb, eqb}
 use lib.ListN.{length, drop, getD, set, replicate, drop-of-length-le, length-append}
 use lib.Seq.{drop-cons, set-append-seam}
+use Rattle.base.specs.Ranges.{thoseFrom}
+use Rattle.base.proofs.RangeLaws.{those-append}
 use Rattle.checks.specs.Parameters.{outside}
-use Rattle.lists.specs.Lists.{someOutside, rises, placeIn, isLive, setLive, someMissing}
+use Rattle.checks.proofs.Laws.{outside-high}
+use Rattle.lists.specs.Lists.{someOutside, rises, placeIn, isLive, setLive, someMissing, liveOutside, liveNodes}
+use Rattle.lists.proofs.Laws.{inside-append, live-nodes-inside}
 
 -- ---- a list, from place i on
 
@@ -62,6 +66,63 @@ rises-end [] (suc i) h = refl
 rises-end (x ∷ []) zero h = refl
 rises-end (x ∷ y ∷ list) zero h = absurd (omega arith)
 rises-end (x ∷ list) (suc i) h = rises-end list i (omega arith)
+
+-- ---- the live numbers outside 1 to n, from j on
+
+outside-those : (n : ℕ) (marks : List Bool) (j m : ℕ) → someOutside n (thoseFrom (isLive marks) j (suc m)) ≡ ((isLive marks j && outside 1 n j) || someOutside n (thoseFrom (isLive marks) (suc j) m))
+unfolding someOutside thoseFrom
+outside-those n marks j m = go (isLive marks j) (thoseFrom (isLive marks) (suc j) m)
+  where
+    go : (b : Bool) (later : List ℕ) → someOutside n (cond b (j ∷ later) later) ≡ ((b && outside 1 n j) || someOutside n later)
+    go true later = refl
+    go false later = refl
+
+-- mark 0 and those from n + 1 on are asked, as far as j
+pub record Asked (n : ℕ) (marks : List Bool) (j : ℕ) : Type 0 where
+  pub above : n < j
+  pub rest : liveOutside n marks ≡ someOutside n (thoseFrom (isLive marks) j (256 - j))
+
+pub zero-live : (n : ℕ) (marks : List Bool) → isLive marks 0 ≡ true → liveOutside n marks ≡ true
+unfolding liveOutside
+zero-live n marks e = outside-those n marks 0 255 ∙ simp e
+
+pub asked-zero : {n : ℕ} {marks : List Bool} → n ≤ 255 → isLive marks 0 ≡ false → Asked n marks (n + 1)
+unfolding liveOutside
+asked-zero {n} {marks} h e =
+    let all : 255 ≡ n + (255 - n) = omega arith in
+    let next : 1 + n ≡ n + 1 = omega arith in
+    let left : 255 - n ≡ 256 - (n + 1) = omega arith in
+    record {
+      above = omega arith;
+      rest =
+          outside-those n marks 0 255
+          ∙ simp e
+          (ap (λ (m : ℕ). someOutside n (thoseFrom (isLive marks) 1 m)) all
+          ∙ rw (those-append (isLive marks) 1 n (255 - n), inside-append n (liveNodes marks n) (thoseFrom (isLive marks) (1 + n) (255 - n)) (live-nodes-inside marks n), next, left));
+    }
+
+module _ {n : ℕ} {marks : List Bool} {j : ℕ} (w : Asked n marks j) where
+  step : j < 256 → liveOutside n marks ≡ (isLive marks j || someOutside n (thoseFrom (isLive marks) (j + 1) (256 - (j + 1))))
+  step h =
+      let e : 256 - j ≡ suc (256 - (j + 1)) = omega arith in
+      w .rest
+      ∙ ap (λ (m : ℕ). someOutside n (thoseFrom (isLive marks) j m)) e
+      ∙ outside-those n marks j (256 - (j + 1))
+      ∙ simp (outside-high 1 n j (w .above), and-true, ← add-one)
+
+  pub asked-live : j < 256 → isLive marks j ≡ true → liveOutside n marks ≡ true
+  asked-live h e = step h ∙ rw e
+
+  pub asked-more : j < 256 → isLive marks j ≡ false → Asked n marks (j + 1)
+  asked-more h e = record { above = omega (arith, w .above); rest = step h ∙ rw e }
+
+  pub asked-all : 256 ≤ j → liveOutside n marks ≡ false
+  unfolding someOutside thoseFrom
+  asked-all h =
+      let e : 256 - j ≡ 0 = omega arith in
+      w .rest ∙ ap (λ (m : ℕ). someOutside n (thoseFrom (isLive marks) j m)) e
+
+-- ---- a list filled up
 
 -- a list with zeros after it, 256 numbers in all
 abbrev pub padded : List ℕ → List ℕ

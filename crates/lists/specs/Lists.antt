@@ -1,10 +1,10 @@
 -- Node lists and marks (document 01, "The session"): a list holds node numbers, and marks say of each number which is live.
-use Prim.Native.Nat.{ℕ, suc, _+_, _-_}
+use Prim.Native.Nat.{ℕ, suc}
 use mathlib.Core.Bool.{Bool, true, false, cond, not, _&&_, _||_}
 use mathlib.Core.List.{List, [], _∷_}
 use lib.ListN.{length, getD, set, replicate}
 use lib.Dec.{eqb, ltb}
-use Rattle.base.specs.Ranges.{someFrom, thoseFrom}
+use Rattle.base.specs.Ranges.{thoseFrom}
 use Rattle.checks.specs.Checks.{Check, _gives_}
 use Rattle.checks.specs.Parameters.{outside}
 
@@ -50,9 +50,9 @@ unfoldable pub someMissing : List Bool → List ℕ → Bool
 someMissing marks [] = false
 someMissing marks (j ∷ list) = not (isLive marks j) || someMissing marks list
 
--- a mark for 0 or above n is live
+-- a mark for 0 or above n is live: one of the live numbers of 0 to 255 is no node's
 unfoldable pub liveOutside : ℕ → List Bool → Bool
-liveOutside n marks = isLive marks 0 || someFrom (isLive marks) (n + 1) (255 - n)
+liveOutside n marks = someOutside n (thoseFrom (isLive marks) 0 256)
 
 -- the live nodes of 1 to n
 abbrev pub liveNodes : List Bool → ℕ → List ℕ

@@ -4,14 +4,13 @@ use mathlib.Core.Path.{_≡_, refl, sym, ap, _∙_}
 use mathlib.Core.Bool.{Bool, true, false, cond, not}
 use mathlib.Core.List.{List, [], _∷_, _++_, map}
 use Prim.Native.Nat.{ℕ, zero, suc, _+_, _-_, _≤_, _<_}
-use native.Mathlib.Decide.{ℕ-discrete}
 use native.Mathlib.Omega.{arith}
 use borrow.Author.Tests.{ltb-true, not-true}
 use lib.Dec.{ltb}
 use lib.ListN.{length, set, length-set}
 use lib.Seq.{getD-set-same, getD-set-other}
-use Rattle.base.specs.Ranges.{thoseFrom, countFrom}
-use Rattle.base.proofs.RangeLaws.{others-count}
+use Rattle.base.specs.Ranges.{thoseFrom}
+use Rattle.base.proofs.RangeLaws.{others-count, count-one}
 use Rattle.base.proofs.Tests.{and-left, and-right}
 use Rattle.families.specs.declared.Family.{Family}
 use Rattle.families.specs.Families.{KInRange, IsNode, nodeCount}
@@ -101,26 +100,6 @@ left-is marks n = omega (arith, others-count (isLive marks) 1 n)
 
 pub left-few : (marks : List Bool) (n : ℕ) → nodesLeft marks n ≤ n
 left-few marks n = omega (arith, left-is marks n)
-
--- two tests that differ at x alone
-module _ (p q : ℕ → Bool) (x : ℕ) (passes : p x ≡ true) (fails : q x ≡ false) (others : (i : ℕ) → (i ≡ x → ⊥) → p i ≡ q i) where
-  count-above : (j m : ℕ) → x < j → countFrom p j m ≡ countFrom q j m
-  unfolding countFrom
-  count-above j zero l = refl
-  count-above j (suc m) l = rw (others j (λ e. omega arith), count-above (suc j) m (omega arith))
-
-  count-one : (j m : ℕ) → j ≤ x → x < j + m → countFrom p j m ≡ suc (countFrom q j m)
-  unfolding countFrom
-  count-one j zero l h = absurd (omega arith)
-  count-one j (suc m) l h = go (ℕ-discrete j x) (λ g. count-one (suc j) m g (omega arith))
-    where
-      go : Dec (j ≡ x) → (suc j ≤ x → countFrom p (suc j) m ≡ suc (countFrom q (suc j) m)) → countFrom p j (suc m) ≡ suc (countFrom q j (suc m))
-      go (yes e) later = rw (e, passes, fails, count-above (suc x) m (omega arith))
-      go (no e) later = rw (others j e, later (omega arith)) (push (q j) (countFrom q (suc j) m))
-        where
-          push : (b : Bool) (c : ℕ) → cond b (suc (suc c)) (suc c) ≡ suc (cond b (suc c) c)
-          push true c = refl
-          push false c = refl
 
 -- a missing node set live is one fewer left
 pub left-set : (marks : List Bool) (n x : ℕ) → 1 ≤ x → x ≤ n → x < length marks → isLive marks x ≡ false → nodesLeft marks n ≡ suc (nodesLeft (set marks x true) n)

@@ -10,6 +10,7 @@ use native.Mathlib.Omega.{arith}
 use borrow.Rule.Slice.PartMut.{putMid, same-len-mid}
 use lib.ListN.{length, drop, length-append, take-append-drop}
 use Rattle.base.specs.Ranges.{thoseFrom}
+use Rattle.base.proofs.ListLaws.{length-zero}
 use Rattle.blocks.proofs.PartLaws.{length-mid, put-beside}
 use Rattle.families.specs.declared.Family.{Family}
 use Rattle.families.specs.Families.{KInRange, nodeCount}
@@ -127,11 +128,7 @@ module _ {f : Family} {k : ℕ} {start : List Bool} {before out : List ℕ} {mar
   -- a round without steps ends the plan
   module _ (e : length round ≡ 0) where
     none : round ≡ []
-    none = go round e
-      where
-        go : (s : List Step) → length s ≡ 0 → s ≡ []
-        go [] z = refl
-        go (x ∷ s) z = absurd (omega arith)
+    none = length-zero round e
 
     plan-done : planOf f k start ≡ w .done
     plan-done = w .split ∙ rw (rounds-end f k marks (rounds + 1) (nodeCount f k - rounds) none, append-nil)

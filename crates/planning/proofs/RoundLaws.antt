@@ -1,26 +1,25 @@
 -- The steps of a round, one next repair after the other, and how far a round has been put into a list of bytes and marked.
 -- Assumes nothing.
 use mathlib.Core.Path.{_≡_, refl, sym, ap, _∙_}
-use mathlib.Core.Bool.{Bool, true, false, cond, not}
+use mathlib.Core.Bool.{Bool, true, not}
 use mathlib.Core.Logic.{_⊎_, inl, inr}
 use mathlib.Core.List.{List, [], _∷_, _++_, append-assoc, append-nil, map, map-append, flatMap}
-use Prim.Native.Nat.{ℕ, zero, suc, _+_, _-_, _*_, _≤_, _<_}
+use Prim.Native.Nat.{ℕ, suc, _+_, _-_, _*_, _≤_, _<_}
 use native.Mathlib.Nat.{sub-zero, eq-zero-or-pos}
 use native.Mathlib.Omega.{arith}
-use borrow.Author.Tests.{ltb-true, ne-eqb}
+use borrow.Author.Tests.{ltb-true, ne-eqb, not-false}
 use borrow.Rule.Slice.PartMut.{putMid, same-len-mid}
 use lib.Dec.{ltb}
 use lib.ListN.{length, set, length-append, take-append-drop}
 use Rattle.base.specs.Ranges.{thoseFrom}
-use Rattle.base.proofs.FlatMap.{flatMap-append}
-use Rattle.base.proofs.RangeLaws.{those-none, those-first}
+use Rattle.base.proofs.ListLaws.{length-zero, flatMap-append}
+use Rattle.base.proofs.RangeLaws.{those-none, those-first, none-those, others-count}
 use Rattle.base.proofs.Tests.{and-right}
 use Rattle.blocks.proofs.PartLaws.{length-mid, put-beside}
 use Rattle.families.specs.declared.Family.{Family}
 use Rattle.families.specs.Families.{KInRange, nodeCount}
-use Rattle.base.proofs.First.{found}
-use Rattle.lists.specs.Lists.{isLive, setLive}
-use Rattle.lists.proofs.Laws.{live-few}
+use Rattle.base.proofs.First.{first-none, found}
+use Rattle.lists.specs.Lists.{isLive, setLive, liveNodes}
 use Rattle.lists.proofs.MarkLaws.{live-append}
 use Rattle.planning.specs.Pairs.{smallerNode, largerNode}
 use Rattle.planning.specs.Plan.{Step, isRepaired, stepOf, roundSteps, repairedNodes, marksAfter, stepBytes}
@@ -44,17 +43,11 @@ marks-append marks s t = ap (setLive marks) (map-append (λ (step : Step). step 
 
 -- ---- a round where every node is live
 
-pub all-live : (f : Family) (k : ℕ) (marks : List Bool) (j m : ℕ) → m ≤ length (thoseFrom (isLive marks) j m) → thoseFrom (isRepaired f k marks) j m ≡ []
-unfolding thoseFrom
-all-live f k marks j zero h = refl
-all-live f k marks j (suc m) h = go (isLive marks j) refl h (λ g. all-live f k marks (suc j) m g)
-  where
-    rest : List ℕ
-    rest = thoseFrom (isLive marks) (suc j) m
-
-    go : (b : Bool) → isLive marks j ≡ b → suc m ≤ length (cond b (j ∷ rest) rest) → (m ≤ length rest → thoseFrom (isRepaired f k marks) (suc j) m ≡ []) → thoseFrom (isRepaired f k marks) j (suc m) ≡ []
-    go true e g later = rw (live-kept f k marks j e) (later (omega arith))
-    go false e g later = absurd (omega (arith, live-few marks (suc j) m))
+pub all-live : (f : Family) (k : ℕ) (marks : List Bool) (n : ℕ) → n ≤ length (liveNodes marks n) → thoseFrom (isRepaired f k marks) 1 n ≡ []
+all-live f k marks n h =
+    let none = length-zero (thoseFrom (λ i. not (isLive marks i)) 1 n) (omega (arith, others-count (isLive marks) 1 n)) in
+    those-none (isRepaired f k marks) 1 n (omega arith)
+    (first-none (isRepaired f k marks) 1 n (λ i l g. live-kept f k marks i (not-false (isLive marks i) (none-those (λ i. not (isLive marks i)) 1 n (omega arith) none i l g))))
 
 -- ---- the next repair
 

@@ -3,7 +3,8 @@ use mathlib.Core.Bool.{Bool, not, _&&_}
 use mathlib.Core.List.{List, [], _∷_, _++_, map, flatMap, getLastD}
 use Prim.Native.Nat.{ℕ, zero, suc}
 use lib.Dec.{ltb}
-use Rattle.base.specs.Ranges.{thoseFrom, countFrom}
+use lib.ListN.{length}
+use Rattle.base.specs.Ranges.{thoseFrom}
 use Rattle.families.specs.declared.Family.{Family}
 use Rattle.families.specs.Families.{nodeCount}
 use Rattle.lists.specs.Lists.{isLive, setLive}
@@ -43,7 +44,7 @@ unfoldable pub roundsFrom : Family → ℕ → ℕ → List Bool → ℕ → Lis
 roundsFrom f k r marks zero = []
 roundsFrom f k r marks (suc m) = let steps = roundSteps f k marks r in steps ++ roundsFrom f k (suc r) (marksAfter marks steps) m
 
--- the plan: n rounds are enough, since each but the last repairs a node (`PlanClaims`)
+-- the plan: n rounds are enough, since each until the plan ends repairs a node (`PlanClaims`)
 unfoldable pub planOf : Family → ℕ → List Bool → List Step
 planOf f k marks = roundsFrom f k 1 marks (nodeCount f k)
 
@@ -57,4 +58,4 @@ lastRound steps = getLastD (map (λ (step : Step). step .round) steps) 0
 
 -- nodes left: how many of 1 to n are missing
 unfoldable pub nodesLeft : List Bool → ℕ → ℕ
-nodesLeft marks n = countFrom (λ j. not (isLive marks j)) 1 n
+nodesLeft marks n = length (thoseFrom (λ j. not (isLive marks j)) 1 n)

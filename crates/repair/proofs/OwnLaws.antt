@@ -1,9 +1,9 @@
 -- Steps and runs as calls on a session and a nodes buffer: a run is its plan's steps, and both keep the object's own blocks.
 -- Assumes nothing.
 use mathlib.Core.Path.{_≡_, refl, sym, ap₂, _∙_, subst}
-use mathlib.Core.Bool.{Bool, true, false, cond, _||_, false≢true}
+use mathlib.Core.Bool.{Bool, true, false, cond, false≢true}
 use mathlib.Core.List.{List, [], _∷_, map, getLastD}
-use Prim.Native.Nat.{ℕ, zero, suc, _+_, _-_, _*_, _≤_, _<_}
+use Prim.Native.Nat.{ℕ, _*_, _≤_}
 use native.Mathlib.Decide.{ℕ-discrete}
 use native.Mathlib.Omega.{arith}
 use borrow.Author.Tests.{eqb-true, not-false}
@@ -11,7 +11,6 @@ use lib.Dec.{eqb}
 use lib.ListN.{length, set, length-set}
 use lib.Seq.{getD-set-same, getD-set-other}
 use Rattle.base.proofs.First.{first-zero}
-use Rattle.base.specs.Ranges.{someFrom}
 use Rattle.families.specs.declared.Family.{Family}
 use Rattle.families.specs.Families.{familyOf, KInRange, IsNode, columnOf}
 use Rattle.families.proofs.Laws.{few}
@@ -22,10 +21,11 @@ use Rattle.blocks.proofs.PartLaws.{length-blockOf}
 use Rattle.blocks.proofs.XorBytes.{length-xorBytes}
 use Rattle.blocks.proofs.JoinedLaws.{same-joined}
 use Rattle.checks.specs.Checks.{firstMet}
-use Rattle.checks.proofs.Laws.{accepted}
+use Rattle.checks.proofs.Laws.{accepted, parameters-in}
 use Rattle.encoding.specs.Matrix.{nodeBlock, nodesBuffer}
 use Rattle.encoding.proofs.Nodes.{related-block, buffer-block}
-use Rattle.lists.specs.Lists.{isLive, setLive, liveOutside}
+use Rattle.lists.specs.Lists.{isLive, setLive}
+use Rattle.lists.proofs.Laws.{set-outside-none}
 use Rattle.lists.proofs.MarkLaws.{set-keeps, live-keeps}
 use Rattle.planning.specs.Claims.{CanMakeAll}
 use Rattle.planning.specs.Made.{mended, nodesMade}
@@ -44,24 +44,17 @@ use Rattle.repair.specs.Step.{stepChecks, withLive, stepped, nodesSteppe
 use Rattle.repair.specs.Repairs.{planIn, ran, nodesRan}
 use Rattle.repair.specs.Calls.{Move, step, run, State, called, stateAfter}
 use Rattle.repair.specs.RepairClaims.{LiveAreOwn}
-use Rattle.repair.proofs.StartLaws.{Known, known, Sized, sized}
+use Rattle.repair.proofs.StartLaws.{Known, known, Sized, sized, no-start-marks}
 use Rattle.repair.proofs.StepLaws.{AcceptedStep, accepted-step, step-accepted}
 use Rattle.repair.proofs.ReadOutLaws.{read}
 
 -- ---- a session with one node more is still one that some start gives
 
-some-kept : (marks : List Bool) (j i m : ℕ) → j < i → someFrom (isLive (set marks j true)) i m ≡ someFrom (isLive marks) i m
-unfolding someFrom
-some-kept marks j i zero h = refl
-some-kept marks j i (suc m) h = ap₂ _||_ (getD-set-other marks j i true false (λ e. omega arith)) (some-kept marks j (suc i) m (omega arith))
-
-outside-kept : (n : ℕ) (marks : List Bool) (j : ℕ) → 1 ≤ j → j ≤ n → liveOutside n (set marks j true) ≡ liveOutside n marks
-unfolding liveOutside
-outside-kept n marks j h g = ap₂ _||_ (getD-set-other marks j 0 true false (λ e. omega arith)) (some-kept marks j (n + 1) (255 - n) (omega arith))
-
-start-kept : (s : Session) (j : ℕ) → IsNode (familyOf (s .family)) (s .k) j → noStart (withLive s (j ∷ [])) ≡ noStart s
-unfolding noStart setLive
-start-kept s j n = rw (outside-kept (nodeCountOf s) (s .live) j (n .first) (n .last))
+start-kept : (s : Session) (j : ℕ) → IsNode (familyOf (s .family)) (s .k) j → noStart s ≡ false → noStart (withLive s (j ∷ [])) ≡ false
+unfolding setLive
+start-kept s j n e =
+    let g = known s e in
+    no-start-marks (withLive s (j ∷ [])) (parameters-in (s .family) (s .k) (s .len) (g .range)) ∙ set-outside-none (nodeCountOf s) (s .live) j (n .first) (n .last) (g .inside)
 
 -- ---- a step, accepted
 
@@ -105,7 +98,7 @@ module _ (s : Session) (nodes : List ℕ) (made : Step) (w : AcceptedStep s node
   sized-stepped =
       let m = w .makes in
       record {
-        starts = start-kept s (made .node) (m .node) ∙ w .buffer .starts;
+        starts = start-kept s (made .node) (m .node) (w .buffer .starts);
         size = length-mended (in-nodes (made .node) (m .node)) (in-nodes (made .smaller) (m .smaller)) (in-nodes (made .larger) (m .larger)) ∙ w .buffer .size;
       }
 
@@ -240,7 +233,7 @@ module _ (s : Session) (starts : noStart s ≡ false) (nodes : List ℕ) where
       made = record { round = 0; node = j; smaller = a; larger = b }
 
       go : (met : Bool) → eqb (firstMet (stepChecks s nodes j a b)) 0 ≡ met → noStart (stepped s nodes j a b .session) ≡ false
-      go true e = let w = accepted-step s nodes made (eqb-true _ 0 e) in rw (session-stepped s nodes made w) (start-kept s j (w .makes .node) ∙ starts)
+      go true e = let w = accepted-step s nodes made (eqb-true _ 0 e) in rw (session-stepped s nodes made w) (start-kept s j (w .makes .node) starts)
       go false e = rw e starts
 
   pub stays-ran : length (s .live) ≡ 256 → noStart (ran s nodes .session) ≡ false

@@ -45,7 +45,7 @@ returns c =
     let n : Place tie.After-node-count = search in
     let l : Place tie.After-count-live = search in
     let g = e .args in
-    let s = all-live (g .family) (g .k) (now (g .marks)) 1 (nodeCount (g .family) (g .k)) (omega (arith, rw (n .node-count .ensures) at (sym (l .count-live .ensures) ∙ c .if1 .taken))) in
+    let s = all-live (g .family) (g .k) (now (g .marks)) (nodeCount (g .family) (g .k)) (omega (arith, rw (n .node-count .ensures) at (sym (l .count-live .ensures) ∙ c .if1 .taken))) in
     rw s (refl, (sym (take-append-drop (g .from) (g .out .now)), refl))
 
 list-live-requires : tie.Need-list-live-requires Inv-loop μ-loop
