@@ -11,6 +11,7 @@ use lib.Dec.{eqb, ltb}
 use lib.ListN.{length, getD, take, drop, length-append, length-drop, take-append-drop}
 use lib.Seq.{take-at, take-append-seam, drop-append-seam, drop-append-add, drop-cons, drop-drop, length-take-le}
 use borrow.Rule.Slice.PartMut.{midOf}
+use Rattle.base.proofs.ListLaws.{length-zero}
 use Rattle.base.proofs.Tests.{and-left, and-right, or-neither}
 use Rattle.families.specs.Families.{familyOf, nodeCount}
 use Rattle.checks.specs.Checks.{firstMet}
@@ -119,11 +120,7 @@ bodies-other L nodes (i ∷ list) bodies j h e p n =
 pub bodies-there : (L : ℕ) (nodes list bodies : List ℕ) → rises list ≡ true → ListIn L nodes list → length bodies ≡ length list * L
     → flatMap (blockOf L (withBodies L nodes list bodies)) list ≡ bodies
 unfolding flatMap withBodies
-bodies-there L nodes [] bodies r h e = sym (none bodies (e ∙ zero-mul L))
-  where
-    none : (l : List ℕ) → length l ≡ 0 → l ≡ []
-    none [] z = refl
-    none (x ∷ l) z = absurd (omega arith)
+bodies-there L nodes [] bodies r h e = sym (length-zero bodies (e ∙ zero-mul L))
 bodies-there L nodes (j ∷ list) bodies r h e =
     let z = first-size L j list bodies e in
     let w = withBlock L nodes j (take L bodies) in

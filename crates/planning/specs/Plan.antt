@@ -23,8 +23,7 @@ isRepaired f k marks j = not (isLive marks j) && ltb 0 (smallerNode f k marks j)
 
 -- its step in round r
 abbrev pub stepOf : Family → ℕ → List Bool → ℕ → ℕ → Step
-stepOf f k marks r j =
-    record { round = r; node = j; smaller = smallerNode f k marks j; larger = largerNode f k marks j (smallerNode f k marks j) }
+stepOf f k marks r j = let a = smallerNode f k marks j in record { round = r; node = j; smaller = a; larger = largerNode f k marks j a }
 
 -- the steps of round r, from the marks when it begins: a step for each node that it repairs, rising
 abbrev pub roundSteps : Family → ℕ → List Bool → ℕ → List Step
