@@ -36,7 +36,7 @@ static void call_encode(void)
     EXPECT(mogtriz_encode(MOGTRIZ_SIMPLEX, K, LEN, object, sizeof object, nodes, sizeof nodes - 1) == MOGTRIZ_REFUSED_BUFFER_LENGTH);
     EXPECT(nodes[0] == 0);
     EXPECT(mogtriz_encode(MOGTRIZ_SIMPLEX, K, LEN, object, sizeof object, nodes, sizeof nodes) == MOGTRIZ_SERVED);
-    EXPECT(memcmp(nodes, all_nodes, sizeof nodes) == MOGTRIZ_SERVED);
+    EXPECT(memcmp(nodes, all_nodes, sizeof nodes) == 0);
 }
 
 static void call_start(void)
@@ -63,7 +63,7 @@ static void call_boxes(void)
 
     mogtriz_started box_read = mogtriz_read(three_box, sizeof three_box, nodes, sizeof nodes);
     EXPECT(box_read.refusal == MOGTRIZ_SERVED && same_session(box_read.session, three_live()));
-    EXPECT(memcmp(nodes, three_nodes, sizeof nodes) == MOGTRIZ_SERVED);
+    EXPECT(memcmp(nodes, three_nodes, sizeof nodes) == 0);
     box_read = mogtriz_read(three_box, sizeof three_box, nodes, sizeof nodes - 1);
     EXPECT(box_read.refusal == MOGTRIZ_REFUSED_BUFFER_LENGTH && same_session(box_read.session, no_session()));
 
@@ -113,7 +113,7 @@ static void call_repairs(void)
     memcpy(nodes, three_nodes, sizeof nodes);
     mogtriz_repairs run = mogtriz_run(three_live(), nodes, sizeof nodes);
     EXPECT(run.refusal == MOGTRIZ_SERVED && run.steps == 4 && run.rounds == 2 && run.left == 0);
-    EXPECT(run.session.live[1] == 1 && run.session.live[6] == 1 && memcmp(nodes, all_nodes, sizeof nodes) == MOGTRIZ_SERVED);
+    EXPECT(run.session.live[1] == 1 && run.session.live[6] == 1 && memcmp(nodes, all_nodes, sizeof nodes) == 0);
     run = mogtriz_run(no_session(), nodes, sizeof nodes);
     EXPECT(run.refusal == MOGTRIZ_REFUSED_NO_SUCH_SESSION && run.steps == 0 && same_session(run.session, no_session()));
 }

@@ -1,15 +1,20 @@
--- The numbers of a range that pass a test: those of one range after another, from the first of them on, and how many they are.
+-- The numbers of a range that pass a test: those of one range after another, from the first of them on, and how many they are; a number
+-- outside a range; a value for each number of one.
 -- Assumes nothing.
 use mathlib.Core.Path.{_≡_, refl, sym, ap, _∙_}
-use mathlib.Core.Bool.{Bool, true, false, cond, not}
+use mathlib.Core.Bool.{Bool, true, false, cond, not, _||_}
 use mathlib.Core.List.{List, [], _∷_, _++_, append-nil}
 use mathlib.Core.Logic.{_⊎_, inl, inr}
 use Prim.Native.Nat.{ℕ, zero, suc, _+_, _-_, _≤_, _<_}
-use native.Mathlib.Nat.{zero-add, add-zero, add-suc, suc-add, eq-zero-or-pos}
+use native.Mathlib.Nat.{zero-add, add-zero, add-suc, suc-add, eq-zero-or-pos, le-of-suc-le-suc, not-suc-le-zero}
 use native.Mathlib.Decide.{ℕ-discrete}
 use native.Mathlib.Omega.{arith}
-use lib.ListN.{length}
-use Rattle.base.specs.Ranges.{firstFrom, thoseFrom}
+use borrow.Author.Tests.{ltb-false, lt-ltb, le-ltb}
+use lib.Dec.{ltb}
+use lib.ListN.{length, getD}
+use Rattle.base.specs.Ranges.{outside, firstFrom, thoseFrom}
+use Rattle.base.specs.Inner.{listFrom}
+use Rattle.base.proofs.Tests.{or-neither}
 use Rattle.base.proofs.First.{first-zero}
 
 module _ (test : ℕ → Bool) where
@@ -104,3 +109,40 @@ module _ (p q : ℕ → Bool) (x : ℕ) (passes : p x ≡ true) (fails : q x ≡
           push : (b : Bool) (s t : List ℕ) → length s ≡ suc (length t) → length (cond b (j ∷ s) s) ≡ suc (length (cond b (j ∷ t) t))
           push true s t g = ap suc g
           push false s t g = g
+
+-- ---- a number outside a range
+
+pub outside-low : (least most number : ℕ) → number < least → outside least most number ≡ true
+outside-low least most number h = rw (lt-ltb number least h)
+
+pub outside-high : (least most number : ℕ) → most < number → outside least most number ≡ true
+outside-high least most number h = or-true (ltb number least) (ltb most number) (lt-ltb most number h)
+  where
+    or-true : (a b : Bool) → b ≡ true → (a || b) ≡ true
+    or-true true b e = refl
+    or-true false b e = e
+
+pub outside-no : (least most number : ℕ) → least ≤ number → number ≤ most → outside least most number ≡ false
+outside-no least most number h g = simp (le-ltb number least h, le-ltb most number g)
+
+pub inside : (least most number : ℕ) → outside least most number ≡ false → (least ≤ number) × (number ≤ most)
+inside least most number h =
+    let n = or-neither (ltb number least) (ltb most number) h in
+    (ltb-false number least (n .0), ltb-false most number (n .1))
+
+-- ---- a value for each number of a range
+
+module _ {A : Type 0} (g : ℕ → A) where
+  pub length-listFrom : (j m : ℕ) → length (listFrom g j m) ≡ m
+  unfolding listFrom
+  length-listFrom j zero = refl
+  length-listFrom j (suc m) = ap suc (length-listFrom (suc j) m)
+
+  from : (j m i : ℕ) (d : A) → i < m → getD (listFrom g j m) i d ≡ g (j + i)
+  unfolding listFrom
+  from j zero i d h = absurd (not-suc-le-zero h)
+  from j (suc m) zero d h = ap g (sym (add-zero j))
+  from j (suc m) (suc i) d h = from (suc j) m i d (le-of-suc-le-suc h) ∙ ap g (suc-add j i ∙ sym (add-suc j i))
+
+  pub getD-listFrom : (m i : ℕ) (d : A) → i < m → getD (listFrom g 0 m) i d ≡ g i
+  getD-listFrom m i d h = from 0 m i d h ∙ ap g (zero-add i)

@@ -6,7 +6,7 @@ use Prim.Native.Nat.{ℕ, zero, suc, _<_}
 use native.Mathlib.Nat.{le-of-suc-le-suc, not-suc-le-zero}
 use native.Mathlib.Omega.{arith}
 use lib.ListN.{length, getD, replicate}
-use lib.Bits.{bitXor, xor-comm, xor-self, xor-zero-r}
+use lib.Bits.{bitXor, xor-comm, xor-self}
 use Rattle.base.proofs.Xor.{xor-assoc}
 use Rattle.blocks.specs.Blocks.{xorBytes}
 
@@ -41,8 +41,3 @@ pub xorBytes-self : (a : List ℕ) → xorBytes a a ≡ replicate (length a) 0
 unfolding xorBytes zipWith
 xorBytes-self [] = refl
 xorBytes-self (x ∷ xs) = ap₂ _∷_ (xor-self x) (xorBytes-self xs)
-
-pub xorBytes-zeros : (a : List ℕ) → xorBytes a (replicate (length a) 0) ≡ a
-unfolding xorBytes zipWith
-xorBytes-zeros [] = refl
-xorBytes-zeros (x ∷ xs) = ap₂ _∷_ (xor-zero-r x) (xorBytes-zeros xs)

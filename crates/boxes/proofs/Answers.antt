@@ -11,7 +11,8 @@ use lib.Seq.{length-take-le}
 use Rattle.checks.specs.Checks.{Check, firstMet}
 use Rattle.checks.specs.Claims.{NoneMet}
 use Rattle.checks.specs.Parameters.{parameterChecks}
-use Rattle.checks.proofs.Laws.{accepted, parameters-none, none-zero, none-left, none-right, none-append, some-append, outside-low, outside-high, outside-no}
+use Rattle.base.proofs.RangeLaws.{outside-low, outside-high, outside-no}
+use Rattle.checks.proofs.Laws.{accepted, parameters-none, none-zero, none-left, none-right, none-append, some-append}
 use Rattle.checks.proofs.AnswerLaws.{after-served, after-refused}
 use Rattle.lists.specs.Lists.{listChecks, placeIn}
 use Rattle.boxes.specs.Box.{familyIn, kIn, blockLengthIn, heldCountIn, zerosIn, namesIn, nodeCountIn, boxLength, boxChecks, bodyChecks, bodyStart, bodyOf}
@@ -83,22 +84,22 @@ module _ (bytes : List ℕ) (j : ℕ) where
     unfolding bodyChecks firstMet
     by-high h = none-append (boxChecks bytes) _ (box-none bytes e) ∙ rw (outside-high 1 (nodeCountIn bytes) j h)
 
-    pub by-missing : 1 ≤ j → j ≤ nodeCountIn bytes → heldCountIn bytes ≤ placeIn (namesIn bytes) j → firstMet (bodyChecks bytes j) ≡ 12
+    pub by-missing : 1 ≤ j → j ≤ nodeCountIn bytes → length (namesIn bytes) ≤ placeIn (namesIn bytes) j → firstMet (bodyChecks bytes j) ≡ 12
     unfolding bodyChecks firstMet
     by-missing h g m =
         none-append (boxChecks bytes) _ (box-none bytes e)
-        ∙ rw (outside-no 1 (nodeCountIn bytes) j h g, le-ltb (placeIn (namesIn bytes) j) (heldCountIn bytes) m)
+        ∙ rw (outside-no 1 (nodeCountIn bytes) j h g, le-ltb (placeIn (namesIn bytes) j) (length (namesIn bytes)) m)
 
-    pub by-none : 1 ≤ j → j ≤ nodeCountIn bytes → placeIn (namesIn bytes) j < heldCountIn bytes → firstMet (bodyChecks bytes j) ≡ 0
+    pub by-none : 1 ≤ j → j ≤ nodeCountIn bytes → placeIn (namesIn bytes) j < length (namesIn bytes) → firstMet (bodyChecks bytes j) ≡ 0
     unfolding bodyChecks firstMet
     by-none h g m =
         none-append (boxChecks bytes) _ (box-none bytes e)
-        ∙ rw (outside-no 1 (nodeCountIn bytes) j h g, lt-ltb (placeIn (namesIn bytes) j) (heldCountIn bytes) m)
+        ∙ rw (outside-no 1 (nodeCountIn bytes) j h g, lt-ltb (placeIn (namesIn bytes) j) (length (namesIn bytes)) m)
 
   -- a body that is not refused
   pub record AcceptedBody : Type 0 where
     pub accepted-box : firstMet (boxChecks bytes) ≡ 0
-    pub place : placeIn (namesIn bytes) j < heldCountIn bytes
+    pub place : placeIn (namesIn bytes) j < length (namesIn bytes)
 
   body-none : firstMet (bodyChecks bytes j) ≡ 0 → NoneMet (bodyChecks bytes j)
   unfolding bodyChecks boxChecks parameterChecks
@@ -111,7 +112,7 @@ module _ (bytes : List ℕ) (j : ℕ) where
       let l = none-right (boxChecks bytes) _ n in
       record {
         accepted-box = none-zero (boxChecks bytes) (none-left (boxChecks bytes) _ n);
-        place = ltb-true (placeIn (namesIn bytes) j) (heldCountIn bytes) (not-false _ (l .1 .0));
+        place = ltb-true (placeIn (namesIn bytes) j) (length (namesIn bytes)) (not-false _ (l .1 .0));
       }
 
   pub body-empty : (firstMet (bodyChecks bytes j) ≡ 0 → ⊥) → bodyOf bytes j ≡ []

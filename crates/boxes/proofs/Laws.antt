@@ -15,9 +15,11 @@ use Rattle.base.proofs.ListLaws.{length-zero}
 use Rattle.base.proofs.Tests.{and-left, and-right, or-neither}
 use Rattle.families.specs.Families.{familyOf, nodeCount}
 use Rattle.checks.specs.Checks.{firstMet}
-use Rattle.checks.specs.Parameters.{outside, parameterChecks}
+use Rattle.base.specs.Ranges.{outside}
+use Rattle.checks.specs.Parameters.{parameterChecks}
 use Rattle.checks.specs.Claims.{InRange}
-use Rattle.checks.proofs.Laws.{inside, none-zero, range-of, parameters-in}
+use Rattle.base.proofs.RangeLaws.{inside}
+use Rattle.checks.proofs.Laws.{none-zero, range-of, parameters-in}
 use Rattle.lists.specs.Lists.{someOutside, rises, listChecks, placeIn}
 use Rattle.blocks.specs.Blocks.{blockOf, withBlock}
 use Rattle.blocks.specs.Inner.{InBuffer}
@@ -173,7 +175,7 @@ module _ (bytes : List ℕ) (j : ℕ) (e : firstMet (bodyChecks bytes j) ≡ 0) 
   body-box = accepted-box bytes (accepted-body bytes j e .accepted-box)
 
   pub body-named : placeIn (namesIn bytes) j < length (namesIn bytes)
-  body-named = omega (arith, accepted-body bytes j e .place, body-box .names-size)
+  body-named = accepted-body bytes j e .place
 
   pub body-held : bodyPlace (namesIn bytes) j < heldCountIn bytes
   body-held = omega (arith, body-named, body-box .names-size)

@@ -51,18 +51,18 @@ module _ (bytes : List ℕ) (e : firstMet (boxChecks bytes) ≡ 0) (i : ℕ) (l 
   abbrev node : ℕ
   node = getD (namesIn bytes) i 0
 
-  held : placeIn (namesIn bytes) node ≡ i
-  held = place-of (namesIn bytes) i (box .rising) named
+  name-place : placeIn (namesIn bytes) node ≡ i
+  name-place = place-of (namesIn bytes) i (box .rising) named
 
   -- its body has the same place among the bodies
   place : bodyPlace (namesIn bytes) node ≡ i
-  place = held
+  place = name-place
 
   is-node : IsNode (familyOf (familyIn bytes)) (kIn bytes) node
   is-node = let n = node-inside (nodeCountIn bytes) (namesIn bytes) i (box .nodes) named in record { first = n .0; last = n .1 }
 
   given : firstMet (bodyChecks bytes node) ≡ 0
-  given = by-none bytes node e (is-node .first) (is-node .last) (omega (arith, held))
+  given = by-none bytes node e (is-node .first) (is-node .last) (omega (arith, name-place, named))
 
   part : bodyOf bytes node ≡ midOf (i * blockLengthIn bytes) (blockLengthIn bytes) (bodiesIn bytes)
   part = sym (body-part bytes node given) ∙ rw (place, drop-drop (i * blockLengthIn bytes) (8 + heldCountIn bytes) bytes)

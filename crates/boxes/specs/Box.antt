@@ -6,8 +6,9 @@ use lib.ListN.{length, getD, take, drop}
 use lib.Dec.{eqb, ltb}
 use Rattle.families.specs.Families.{familyOf, nodeCount}
 use Rattle.checks.specs.Checks.{Check, _gives_, afterwards}
-use Rattle.checks.specs.Parameters.{outside, parameterChecks}
-use Rattle.lists.specs.Lists.{listChecks, placeIn}
+use Rattle.base.specs.Ranges.{outside}
+use Rattle.checks.specs.Parameters.{parameterChecks}
+use Rattle.lists.specs.Lists.{listChecks, placeIn, isIn}
 
 -- byte 0: family. Byte 1: k. Bytes 2 to 3: L, the low byte first. Byte 4: E, the number of nodes held
 abbrev pub familyIn : List ℕ → ℕ
@@ -57,7 +58,7 @@ unfoldable pub bodyChecks : List ℕ → ℕ → List Check
 bodyChecks bytes j =
     boxChecks bytes
     ++ ((outside 1 (nodeCountIn bytes) j gives 4)
-    ∷ (not (ltb (placeIn (namesIn bytes) j) (heldCountIn bytes)) gives 12)
+    ∷ (not (isIn (namesIn bytes) j) gives 12)
     ∷ [])
 
 -- the place of node j's body among the bodies, from 0: that of its number among the node numbers

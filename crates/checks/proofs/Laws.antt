@@ -1,18 +1,18 @@
 -- What a list of checks gives: the number of a check where its condition is met and no earlier one is, and nowhere else.
 -- Assumes nothing.
 use mathlib.Core.Path.{_≡_, refl, ap, _∙_}
-use mathlib.Core.Bool.{Bool, true, false, _&&_, _||_, true≢false, false≢true}
+use mathlib.Core.Bool.{Bool, true, false, _&&_, true≢false, false≢true}
 use mathlib.Core.List.{List, [], _∷_, _++_}
-use Prim.Native.Nat.{ℕ, zero, suc, _*_, _≤_, _<_}
+use Prim.Native.Nat.{ℕ, zero, suc, _*_, _≤_}
 use native.Mathlib.Nat.{mul-le-mul}
 use native.Mathlib.Omega.{arith}
-use borrow.Author.Tests.{ltb-false, lt-ltb, le-ltb}
 use lib.Dec.{ltb}
-use Rattle.base.proofs.Tests.{or-neither, and-right}
+use Rattle.base.proofs.Tests.{and-right}
 use Rattle.families.specs.Families.{familyOf, leastK, mostK}
 use Rattle.checks.specs.Checks.{Check, _gives_, firstMet}
 use Rattle.checks.specs.Claims.{NoneMet, Due, ChecksClaim, InRange, RangeClaim}
-use Rattle.checks.specs.Parameters.{mostL, outside, parameterChecks}
+use Rattle.base.proofs.RangeLaws.{inside, outside-no}
+use Rattle.checks.specs.Parameters.{mostL, parameterChecks}
 
 -- where no earlier condition is met, the number of one that is met is given
 given : (earlier : List Check) (number : ℕ) (later : List Check) → NoneMet earlier → firstMet (earlier ++ (true gives number) ∷ later) ≡ number
@@ -74,24 +74,6 @@ some-append ((true gives r) ∷ checks) later n = refl
 some-append ((false gives r) ∷ checks) later n = some-append checks later n
 
 -- ---- 1 to 3
-
-pub outside-low : (least most number : ℕ) → number < least → outside least most number ≡ true
-outside-low least most number h = rw (lt-ltb number least h)
-
-pub outside-high : (least most number : ℕ) → most < number → outside least most number ≡ true
-outside-high least most number h = or-true (ltb number least) (ltb most number) (lt-ltb most number h)
-  where
-    or-true : (a b : Bool) → b ≡ true → (a || b) ≡ true
-    or-true true b e = refl
-    or-true false b e = e
-
-pub outside-no : (least most number : ℕ) → least ≤ number → number ≤ most → outside least most number ≡ false
-outside-no least most number h g = simp (le-ltb number least h, le-ltb most number g)
-
-pub inside : (least most number : ℕ) → outside least most number ≡ false → (least ≤ number) × (number ≤ most)
-inside least most number h =
-    let n = or-neither (ltb number least) (ltb most number) h in
-    (ltb-false number least (n .0), ltb-false most number (n .1))
 
 pub parameters-none : (family k L : ℕ) → firstMet (parameterChecks family k L) ≡ 0 → NoneMet (parameterChecks family k L)
 unfolding parameterChecks

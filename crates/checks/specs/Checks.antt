@@ -18,6 +18,6 @@ firstMet ((met gives number) ∷ checks) = cond met number (firstMet checks)
 abbrev pub answer : {A : Type 0} → List Check → A → (ℕ → A) → A
 answer checks served refused = cond (eqb (firstMet checks) 0) served (refused (firstMet checks))
 
--- what a lent buffer holds afterwards: what the service leaves where no check is met, else what it held
+-- one list where no check is met, else another: what a lent buffer holds afterwards, the other being what it held
 abbrev pub afterwards : List Check → List ℕ → List ℕ → List ℕ
 afterwards checks served before = cond (eqb (firstMet checks) 0) served before

@@ -1,18 +1,13 @@
 -- Refusals 1 to 3: a family, its k and L.
 use Prim.Native.Nat.{ℕ}
-use mathlib.Core.Bool.{Bool, _||_}
 use mathlib.Core.List.{List, [], _∷_}
-use lib.Dec.{ltb}
+use Rattle.base.specs.Ranges.{outside}
 use Rattle.families.specs.Families.{familyOf, leastK, mostK}
 use Rattle.checks.specs.Checks.{Check, _gives_}
 
 -- the largest L
 abbrev pub mostL : ℕ
 mostL = 4096
-
--- the number is below the least or above the most
-abbrev pub outside : ℕ → ℕ → ℕ → Bool
-outside least most number = ltb number least || ltb most number
 
 -- 1 family unknown, 2 k outside its family's range, 3 L is 0 or above the largest
 unfoldable pub parameterChecks : ℕ → ℕ → ℕ → List Check

@@ -5,7 +5,7 @@ use mathlib.Core.Bool.{Bool, true, false, cond}
 use mathlib.Core.List.{List, [], _∷_, _++_, map, foldr, map-append}
 use mathlib.Core.Logic.{⊎-elim}
 use Prim.Native.Nat.{ℕ, zero, suc, _+_, _-_, _*_, _/_, _%_, _^_, _≤_, _<_}
-use native.Mathlib.Nat.{le-of-suc-le-suc, not-suc-le-zero, eq-or-lt-of-le, mul-le-mul-right, suc-mul, le-refl, div-eq-of-lt, div-self, zero-div, pow-suc, mul-mod-left}
+use native.Mathlib.Nat.{le-of-suc-le-suc, not-suc-le-zero, eq-or-lt-of-le, mul-le-mul-right, suc-mul, le-refl, div-eq-of-lt, div-self, pow-suc, mul-mod-left}
 use native.Mathlib.Numerals.{add-one}
 use native.Mathlib.Omega.{arith}
 use lib.Dec.{eqb}
@@ -113,11 +113,6 @@ node-block-more k L object column = rw (← add-one k) (go (hasBit column k) (ap
         → nodeBlock (k + 1) L object column ≡ cond b (xorBytes (nodeBlock k L object column) (blockOf L object (k + 1))) (nodeBlock k L object column)
     go true e = rw (those-more (hasBlock column) k e, map-append (blockOf L object) front ((k + 1) ∷ [])) (xor-last (replicate L 0) (blockOf L object (k + 1)) (map (blockOf L object) front))
     go false e = rw (those-same (hasBlock column) k e)
-
-pub node-block-zero : (k L : ℕ) (object : List ℕ) → nodeBlock k L object 0 ≡ replicate L 0
-unfolding nodeBlock thoseFrom
-node-block-zero zero L object = refl
-node-block-zero (suc k) L object = node-block-more k L object 0 ∙ rw (zero-div (2 ^ k)) (node-block-zero k L object)
 
 module _ (k L : ℕ) (object : List ℕ) (h : length object ≡ k * L) where
   data-bytes : (i : ℕ) → i < k → Bytes L (blockOf L object (suc i)) (λ p. getD object (i * L + p) 0)

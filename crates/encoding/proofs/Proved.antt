@@ -1,5 +1,8 @@
 -- The claims of specs/Claims.antt.
 -- Assumes nothing.
+use mathlib.Core.Path.{_≡_}
+use Prim.Native.Nat.{suc, _-_}
+use native.Mathlib.Omega.{arith}
 use lib.ListN.{length}
 use Rattle.families.specs.Families.{nodeCount}
 use Rattle.checks.proofs.Laws.{parameters-in}
@@ -16,7 +19,7 @@ matrix-claim f k L object h =
     record {
       size = length-nodeBlocks f k L object h (nodeCount f k);
       block = buffer-block f k L object h;
-      unit = node-block-unit k L object h;
+      unit = λ i l g. let e : suc (i - 1) ≡ i = omega arith in rw e at (node-block-unit k L object h (i - 1) (omega arith));
       linear = node-block-xor k L object h;
       related = related-block f k L object h;
       cancel = related-zero f k L object h;

@@ -4,7 +4,7 @@ use mathlib.Core.Path.{_≡_}
 use mathlib.Core.Bool.{true}
 use mathlib.Core.List.{List}
 use mathlib.Core.Logic.{_↔_}
-use Prim.Native.Nat.{ℕ, suc, _*_, _^_, _<_}
+use Prim.Native.Nat.{ℕ, _-_, _*_, _^_, _≤_}
 use lib.Bits.{bitXor}
 use lib.ListN.{length, replicate}
 use Rattle.families.specs.declared.Family.{Family}
@@ -20,7 +20,7 @@ pub record MatrixClaims (f : Family) (k L : ℕ) (object : List ℕ) : Type 0 wh
   pub size : length (nodesBuffer f k L object) ≡ nodeCount f k * L
   pub block : (j : ℕ) → IsNode f k j → blockOf L (nodesBuffer f k L object) j ≡ nodeBlock k L object (columnOf f k j)
   -- the column of one bit gives that data block
-  pub unit : (i : ℕ) → i < k → nodeBlock k L object (2 ^ i) ≡ blockOf L object (suc i)
+  pub unit : (i : ℕ) → 1 ≤ i → i ≤ k → nodeBlock k L object (2 ^ (i - 1)) ≡ blockOf L object i
   -- the node block of an XOR of columns is the XOR of the node blocks
   pub linear : (a b : ℕ) → nodeBlock k L object (bitXor a b) ≡ xorBytes (nodeBlock k L object a) (nodeBlock k L object b)
   -- related nodes' blocks: one is the XOR of the other two, and the three XOR to zero

@@ -1,5 +1,5 @@
--- The generator matrix (document 01, "The collection's units"): objects, data blocks, and the block of each node, for blocks
--- of any length L.
+-- The generator matrix (document 01, "The collection's units"): which data blocks are in a node, its block, and the nodes buffer, for
+-- blocks of any length L.
 use Prim.Native.Nat.{ℕ, _-_, _/_, _%_, _^_}
 use mathlib.Core.Bool.{Bool}
 use mathlib.Core.List.{List, map, foldr}
@@ -14,8 +14,8 @@ use Rattle.blocks.specs.Blocks.{xorBytes, joined, blockOf}
 abbrev pub hasBlock : ℕ → ℕ → Bool
 hasBlock column i = eqb (column / 2 ^ (i - 1) % 2) 1
 
--- the block of a node: the bytewise XOR of those of an object's k data blocks that are in its column. Data block i is the
--- object's block i, as node i's is a nodes buffer's
+-- the block of a node: the bytewise XOR of those of an object's k data blocks that are in its column; data block i is the object's
+-- bytes from (i − 1) × L up to i × L
 unfoldable pub nodeBlock : ℕ → ℕ → List ℕ → ℕ → List ℕ
 nodeBlock k L object column = foldr xorBytes (replicate L 0) (map (blockOf L object) (thoseFrom (hasBlock column) 1 k))
 

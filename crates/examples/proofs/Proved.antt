@@ -11,12 +11,11 @@ use lib.ListN.{length, getD, drop}
 use lib.Seq.{ext-getD}
 use Rattle.base.specs.Ranges.{firstFrom, thoseFrom}
 use Rattle.families.specs.Families.{familyOf, nodeCount, columnOf, pairAt, areRelated}
-use Rattle.families.specs.Inner.{listFrom}
-use Rattle.families.proofs.TableLaws.{length-listFrom, getD-listFrom}
+use Rattle.base.specs.Inner.{listFrom}
 use Rattle.blocks.specs.Blocks.{joined, xorBytes, blockOf, withBlock}
 use Rattle.checks.specs.Checks.{firstMet}
 use Rattle.checks.specs.Parameters.{mostL, parameterChecks}
-use Rattle.checks.proofs.Laws.{outside-no}
+use Rattle.base.proofs.RangeLaws.{outside-no, length-listFrom, getD-listFrom}
 use Rattle.encoding.specs.Matrix.{nodeBlock, nodesBuffer}
 use Rattle.encoding.specs.Encode.{encodeChecks, encodeAnswer, encoded}
 use Rattle.lists.specs.Lists.{someOutside, rises, placeIn, setLive, someMissing, liveOutside}
@@ -28,7 +27,7 @@ use Rattle.planning.proofs.CarryLaws.{steps-back}
 use Rattle.boxes.specs.Box.{blockLengthIn, nodeCountIn, boxChecks, bodyChecks, bodyOf}
 use Rattle.boxes.specs.Bodies.{boxOf, withBodies}
 use Rattle.repair.specs.declared.Session.{Session}
-use Rattle.repair.specs.Session.{sessionOf, started, startChecks, nodeCountOf, noStart, nodesChecks}
+use Rattle.repair.specs.Session.{sessionOf, acceptedStart, started, startChecks, nodeCountOf, noStart, nodesChecks}
 use Rattle.repair.specs.Boxed.{checkedBox, readChecks, readBox, nodesRead, writeChecks, written, outWritten}
 use Rattle.repair.specs.Step.{stepChecks, stepped, nodesStepped}
 use Rattle.repair.specs.Repairs.{planIn}
@@ -36,7 +35,7 @@ use Rattle.repair.proofs.StartLaws.{nodes-0}
 use Rattle.repair.proofs.RepairsLaws.{plan-made, run-made}
 use Rattle.listing.specs.Text.{decimal, field, firstLine, stepLine, lastLine, refusalLine}
 use Rattle.listing.specs.Listing.{answerOf, listingIn, listingOf}
-use Rattle.examples.specs.Examples.{Row, Encodes, Plans, Starts, BoxGives, BoxReads, BoxHolds, BoxLacks, BoxSteps, BoxWrites, Lists, accepted, allBut, HasPlan, Holds, Every, table, Examples}
+use Rattle.examples.specs.Examples.{Row, Encodes, Plans, Starts, BoxGives, BoxReads, BoxHolds, BoxLacks, BoxSteps, BoxWrites, Lists, allBut, HasPlan, Holds, Every, table, Examples}
 
 -- ---- a plan
 
@@ -104,8 +103,8 @@ Computed (Plans family k list steps rounds left) =
 Computed (Starts family k L list number) = Holds (Starts family k L list number)
 Computed (BoxGives bytes number) = Holds (BoxGives bytes number)
 Computed (BoxReads box s after) =
-    (checkedBox box ≡ accepted s)
-    × Each box (λ given nodes. (readBox box nodes ≡ accepted s) × (nodesRead box nodes ≡ after (λ j. getD nodes (j - 1) 0)))
+    (checkedBox box ≡ acceptedStart s)
+    × Each box (λ given nodes. (readBox box nodes ≡ acceptedStart s) × (nodesRead box nodes ≡ after (λ j. getD nodes (j - 1) 0)))
 Computed (BoxHolds box j start body) = Holds (BoxHolds box j start body)
 Computed (BoxLacks box j number) = Holds (BoxLacks box j number)
 Computed (BoxSteps box j a b number) = Each box (λ s nodes. (stepped s nodes j a b ≡ record { refusal = number; session = s }) × (nodesStepped s nodes j a b ≡ nodes))

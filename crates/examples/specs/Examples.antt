@@ -13,8 +13,7 @@ use Rattle.encoding.specs.Encode.{encodeAnswer, encoded}
 use Rattle.planning.specs.Made.{nodesMade, stepsIn}
 use Rattle.boxes.specs.Box.{blockLengthIn, nodeCountIn, bodyChecks, bodyStart, bodyOf}
 use Rattle.repair.specs.declared.Session.{Session}
-use Rattle.repair.specs.declared.Started.{Started}
-use Rattle.repair.specs.Session.{sessionOf, started, nodeCountOf}
+use Rattle.repair.specs.Session.{sessionOf, acceptedStart, started, nodeCountOf}
 use Rattle.repair.specs.Boxed.{checkedBox, readBox, nodesRead, written, outWritten}
 use Rattle.repair.specs.Step.{stepped, nodesStepped}
 use Rattle.repair.specs.Repairs.{planned, outPlanned, ran, nodesRan}
@@ -46,10 +45,6 @@ pub data Row : Type 0 where
   -- a box, and what the lister prints of it
   Lists : List ℕ → String → Row
 
--- what an accepted start or box gives: 0 and its session
-abbrev pub accepted : Session → Started
-accepted s = record { refusal = 0; session = s }
-
 -- the session with every node live but those of a list
 abbrev pub allBut : List ℕ → Session → Session
 allBut list s = sessionOf (s .family) (s .k) (s .len) (thoseFrom (λ j. not (isIn list j)) 1 (nodeCountOf s))
@@ -68,7 +63,7 @@ pub record HasPlan (s : Session) (steps : List ℕ) (rounds : ℕ) (left : List 
   pub run-leaves : (nodes : List ℕ) → length nodes ≡ nodeCountOf s * s .len
       → nodesRan s nodes ≡ nodesMade (s .len) nodes (stepsIn steps (length steps / 4))
 
--- this is so of a box's session and every nodes buffer of its length
+-- this is so of a box's session and every nodes buffer of n × L bytes
 abbrev pub InBox : List ℕ → (Session → List ℕ → Type 0) → Type 0
 InBox box So = (nodes : List ℕ) → length nodes ≡ nodeCountIn box * blockLengthIn box → So (checkedBox box .session) nodes
 
@@ -78,11 +73,11 @@ Holds (Encodes family k L object nodes) =
     (buffer : List ℕ) → length buffer ≡ length nodes → (encodeAnswer family k L object buffer ≡ 0) × (encoded family k L object buffer ≡ nodes)
 Holds (Plans family k list steps rounds left) =
     (L : ℕ) → 1 ≤ L → L ≤ mostL
-    → (started family k L list ≡ accepted (sessionOf family k L list)) × HasPlan (sessionOf family k L list) steps rounds left
+    → (started family k L list ≡ acceptedStart (sessionOf family k L list)) × HasPlan (sessionOf family k L list) steps rounds left
 Holds (Starts family k L list number) = started family k L list .refusal ≡ number
 Holds (BoxGives bytes number) = checkedBox bytes .refusal ≡ number
 Holds (BoxReads box s after) =
-    (checkedBox box ≡ accepted s) × InBox box (λ given nodes. (readBox box nodes ≡ accepted s) × (nodesRead box nodes ≡ after (λ j. getD nodes (j - 1) 0)))
+    (checkedBox box ≡ acceptedStart s) × InBox box (λ given nodes. (readBox box nodes ≡ acceptedStart s) × (nodesRead box nodes ≡ after (λ j. getD nodes (j - 1) 0)))
 Holds (BoxHolds box j start body) = (firstMet (bodyChecks box j) ≡ 0) × (bodyStart box j ≡ start) × (bodyOf box j ≡ body)
 Holds (BoxLacks box j number) = (firstMet (bodyChecks box j) ≡ number) × (bodyOf box j ≡ [])
 -- session and nodes buffer stay
@@ -110,9 +105,9 @@ abbrev pub table : List Row
 table =
     -- a. Simplex 3, L 1, object 1, 2, 4: node j holds j
     Encodes 1 3 1 (1 ∷ 2 ∷ 4 ∷ []) (1 ∷ 2 ∷ 3 ∷ 4 ∷ 5 ∷ 6 ∷ 7 ∷ [])
-    -- b. The box above: its session, and the bodies of 4, 5 and 7 read into a nodes buffer, where places of missing nodes keep their bytes; the
-    -- plan above
+    -- b. The box above: its session; its bodies read into a nodes buffer, places of missing nodes keeping their bytes
     ∷ BoxReads sampleBox (sessionOf 1 3 1 (4 ∷ 5 ∷ 7 ∷ [])) (λ was. was 1 ∷ was 2 ∷ was 3 ∷ 4 ∷ 5 ∷ was 6 ∷ 7 ∷ [])
+    -- b. The plan above, at every L
     ∷ Plans 1 3 (4 ∷ 5 ∷ 7 ∷ []) (1 ∷ 1 ∷ 4 ∷ 5 ∷ 1 ∷ 2 ∷ 5 ∷ 7 ∷ 1 ∷ 3 ∷ 4 ∷ 7 ∷ 2 ∷ 6 ∷ 1 ∷ 7 ∷ []) 2 []
     -- c. Simplex 2, live 1: steps 0, rounds 0, left 2
     ∷ Plans 1 2 (1 ∷ []) [] 0 (2 ∷ 3 ∷ [])

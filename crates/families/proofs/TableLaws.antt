@@ -1,10 +1,9 @@
 -- A list made of a function of the places, and the table of columns that is filled node by node.
 -- Assumes nothing.
-use mathlib.Core.Path.{_≡_, refl, sym, ap, _∙_}
+use mathlib.Core.Path.{_≡_, refl, sym, _∙_}
 use mathlib.Core.Bool.{Bool, true, false, cond, _&&_}
 use mathlib.Core.List.{List}
 use Prim.Native.Nat.{ℕ, zero, suc, _+_, _≤_, _<_}
-use native.Mathlib.Nat.{add-zero, zero-add, add-suc, suc-add, le-of-suc-le-suc, not-suc-le-zero}
 use native.Mathlib.Decide.{ℕ-discrete, decLe}
 use native.Mathlib.Omega.{arith}
 use borrow.Author.Tests.{le-leb, lt-leb}
@@ -13,23 +12,10 @@ use lib.ListN.{length, getD, set, replicate, length-set}
 use lib.Seq.{ext-getD, getD-set-same, getD-set-other}
 use Rattle.families.proofs.Laws.{few}
 use Rattle.families.specs.Families.{KInRange, IsNode, nodeCount, columnOf}
-use Rattle.families.specs.Inner.{listFrom, columnTable}
+use Rattle.base.specs.Inner.{listFrom}
+use Rattle.base.proofs.RangeLaws.{length-listFrom, getD-listFrom}
+use Rattle.families.specs.Inner.{columnTable}
 use Rattle.families.specs.declared.Family.{Family}
-
-module _ {A : Type 0} (g : ℕ → A) where
-  pub length-listFrom : (j m : ℕ) → length (listFrom g j m) ≡ m
-  unfolding listFrom
-  length-listFrom j zero = refl
-  length-listFrom j (suc m) = ap suc (length-listFrom (suc j) m)
-
-  from : (j m i : ℕ) (d : A) → i < m → getD (listFrom g j m) i d ≡ g (j + i)
-  unfolding listFrom
-  from j zero i d h = absurd (not-suc-le-zero h)
-  from j (suc m) zero d h = ap g (sym (add-zero j))
-  from j (suc m) (suc i) d h = from (suc j) m i d (le-of-suc-le-suc h) ∙ ap g (suc-add j i ∙ sym (add-suc j i))
-
-  pub getD-listFrom : (m i : ℕ) (d : A) → i < m → getD (listFrom g 0 m) i d ≡ g i
-  getD-listFrom m i d h = from 0 m i d h ∙ ap g (zero-add i)
 
 -- a store changes the function at one place
 pub set-listFrom : (g h : ℕ → ℕ) (m i v : ℕ) → h i ≡ v → ((p : ℕ) → (p ≡ i → ⊥) → h p ≡ g p) → set (listFrom g 0 m) i v ≡ listFrom h 0 m

@@ -10,7 +10,7 @@ use Rattle.base.specs.Ranges.{firstFrom}
 use Rattle.families.specs.declared.Family.{Family}
 use Rattle.families.specs.declared.Family.the-variants.{Simplex, WeightTwo, Tetrahedron}
 
--- the family of a number: 1 simplex, 2 weight-two, 3 tetrahedron; of any other nothing is seen, since 1 is the first check
+-- the family of a number: 1 simplex, 2 weight-two, 3 tetrahedron; any other counts as 3, and nothing shows it: it is turned away before
 abbrev pub familyOf : ℕ → Family
 familyOf number = cond (eqb number 1) Simplex (cond (eqb number 2) WeightTwo Tetrahedron)
 
@@ -42,11 +42,11 @@ pub record IsNode (f : Family) (k j : ℕ) : Type 0 where
   pub first : 1 ≤ j
   pub last : j ≤ nodeCount f k
 
--- Weight-two: of the pairs i < j of m data blocks, by i and then j, the column of the one at a place, from 0. The first m − 1
--- are block 1 with each block after it; then come the pairs of the other blocks, whose bits stand one further up.
+-- Weight-two: of the pairs i < j of some data blocks, by i and then j, the column of the one at a place, from 0; 0 past the last.
+-- First comes block 1 with each of the others, then the pairs of the others, whose bits stand one further up
 unfoldable pub pairAt : ℕ → ℕ → ℕ
 pairAt zero place = 0
-pairAt (suc m) place = cond (ltb place m) (1 + 2 ^ suc place) (2 * pairAt m (place - m))
+pairAt (suc others) place = cond (ltb place others) (1 + 2 ^ suc place) (2 * pairAt others (place - others))
 
 -- document 01's number of the pair i < j; that the columns have this order is a claim of Claims.antt
 abbrev pub pairNode : ℕ → ℕ → ℕ → ℕ

@@ -1,8 +1,9 @@
 -- For inner functions: the column of a data block, and the table of a family's columns.
 use Prim.Native.Nat.{ℕ, zero, suc, _^_}
 use mathlib.Core.Bool.{cond, _&&_}
-use mathlib.Core.List.{List, [], _∷_}
+use mathlib.Core.List.{List}
 use lib.Dec.{leb}
+use Rattle.base.specs.Inner.{listFrom}
 use Rattle.families.specs.Families.{nodeCount, columnOf}
 use Rattle.families.specs.declared.Family.{Family}
 
@@ -10,12 +11,6 @@ use Rattle.families.specs.declared.Family.{Family}
 abbrev pub unit : ℕ → ℕ
 unit zero = 0
 unit (suc i) = 2 ^ i
-
-module _ {A : Type 0} where
-  -- a value for each of the numbers j, j + 1, .., of which there are m
-  unfoldable pub listFrom : (ℕ → A) → ℕ → ℕ → List A
-  listFrom g j zero = []
-  listFrom g j (suc m) = g j ∷ listFrom g (suc j) m
 
 -- the columns by node number, 0 to 255: 0 for node 0 and above n, where there is no node
 unfoldable pub columnTable : Family → ℕ → List ℕ

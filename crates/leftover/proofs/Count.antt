@@ -13,12 +13,12 @@ use Rattle.families.specs.declared.Family.{Family}
 use Rattle.families.specs.Families.{IsNode, nodeCount}
 use Rattle.leftover.specs.Open.{OpenCount}
 
-pub same-count : (f : Family) (k : ℕ) (s t : ℕ → Bool) → ((j : ℕ) → IsNode f k j → s j ≡ t j) → length (thoseFrom s 1 (nodeCount f k)) ≡ length (thoseFrom t 1 (nodeCount f k))
-same-count f k s t h = ap length (same-from s t 1 (nodeCount f k) (λ i a b. h i (record { first = a; last = omega arith })))
+pub alike-count : (f : Family) (k : ℕ) (s t : ℕ → Bool) → ((j : ℕ) → IsNode f k j → s j ≡ t j) → length (thoseFrom s 1 (nodeCount f k)) ≡ length (thoseFrom t 1 (nodeCount f k))
+alike-count f k s t h = ap length (same-from s t 1 (nodeCount f k) (λ i a b. h i (record { first = a; last = omega arith })))
 
 pub one-count : (f : Family) (k L : ℕ) (list : List ℕ) (c d : ℕ) → OpenCount f k L list c → OpenCount f k L list d → c ≡ d
 one-count f k L list c d p q =
     sym (p .counts)
-    ∙ same-count f k (p .test) (q .test)
+    ∙ alike-count f k (p .test) (q .test)
     (λ j n. same-answer (p .test j) (q .test j) (λ t. q .decides j n .1 (p .decides j n .0 t)) (λ t. p .decides j n .1 (q .decides j n .0 t)))
     ∙ q .counts

@@ -24,7 +24,7 @@ pub record Open (f : Family) (k L : ℕ) (list : List ℕ) (j : ℕ) : Type 0 wh
   pub alike : (i : ℕ) → i < length list → nodeBlock k L one (columnOf f k (getD list i 0)) ≡ nodeBlock k L other (columnOf f k (getD list i 0))
   pub differ : nodeBlock k L one (columnOf f k j) ≡ nodeBlock k L other (columnOf f k j) → ⊥
 
--- the number of open nodes: of 1 to n a test passes at those that are open and at no other, and so many pass it
+-- how many of the nodes 1 to n are open: so many pass a test that passes exactly at the open ones
 pub record OpenCount (f : Family) (k L : ℕ) (list : List ℕ) (number : ℕ) : Type 0 where
   pub test : ℕ → Bool
   pub decides : (j : ℕ) → IsNode f k j → (test j ≡ true) ↔ Open f k L list j

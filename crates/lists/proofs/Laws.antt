@@ -12,12 +12,12 @@ use borrow.Author.Tests.{ltb-true, lt-ltb, eqb-true, eqb-false, eq-eqb, ne-eqb}
 use lib.Dec.{ltb, eqb, leb·suc-suc}
 use lib.ListN.{length, getD, set, length-set, getD-replicate}
 use lib.Seq.{getD-set-same, getD-set-other, ext-getD}
-use Rattle.base.specs.Ranges.{thoseFrom}
+use Rattle.base.specs.Ranges.{thoseFrom, outside}
 use Rattle.base.proofs.Tests.{and-left, and-right, and-both, or-neither, same-answer}
 use Rattle.checks.specs.Checks.{firstMet}
 use Rattle.checks.specs.Claims.{NoneMet}
-use Rattle.checks.proofs.Laws.{accepted, inside, outside-no}
-use Rattle.checks.specs.Parameters.{outside}
+use Rattle.base.proofs.RangeLaws.{inside, outside-no}
+use Rattle.checks.proofs.Laws.{accepted}
 use Rattle.lists.specs.Lists.{someOutside, rises, listChecks, placeIn, isIn, noneLive, isLive, setLive, someMissing, liveOutside, liveNodes}
 
 -- a list that is not refused meets neither 4 nor 5

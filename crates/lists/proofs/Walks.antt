@@ -9,10 +9,8 @@ use native.Mathlib.Omega.{arith}
 use lib.Dec.{ltb, eqb}
 use lib.ListN.{length, drop, getD, set, replicate, drop-of-length-le, length-append}
 use lib.Seq.{drop-cons, set-append-seam}
-use Rattle.base.specs.Ranges.{thoseFrom}
-use Rattle.base.proofs.RangeLaws.{those-append}
-use Rattle.checks.specs.Parameters.{outside}
-use Rattle.checks.proofs.Laws.{outside-high}
+use Rattle.base.specs.Ranges.{thoseFrom, outside}
+use Rattle.base.proofs.RangeLaws.{those-append, outside-high}
 use Rattle.lists.specs.Lists.{someOutside, rises, placeIn, isLive, setLive, someMissing, liveOutside, liveNodes}
 use Rattle.lists.proofs.Laws.{inside-append, live-nodes-inside}
 

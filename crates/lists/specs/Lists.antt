@@ -4,9 +4,8 @@ use mathlib.Core.Bool.{Bool, true, false, cond, not, _&&_, _||_}
 use mathlib.Core.List.{List, [], _∷_}
 use lib.ListN.{length, getD, set, replicate}
 use lib.Dec.{eqb, ltb}
-use Rattle.base.specs.Ranges.{thoseFrom}
+use Rattle.base.specs.Ranges.{thoseFrom, outside}
 use Rattle.checks.specs.Checks.{Check, _gives_}
-use Rattle.checks.specs.Parameters.{outside}
 
 -- a node number of the list is 0 or above n
 unfoldable pub someOutside : ℕ → List ℕ → Bool

@@ -4,13 +4,10 @@ use mathlib.Core.Path.{_≡_, refl, sym}
 use mathlib.Core.Bool.{Bool, true, false}
 use mathlib.Core.Logic.{_⊎_, inl, inr}
 use Prim.Native.Nat.{ℕ}
-use native.Mathlib.Decide.{ℕ-discrete}
-use native.Mathlib.Omega.{arith}
-use borrow.Author.Tests.{eqb-true, eqb-false, ne-eqb, le-leb}
+use borrow.Author.Tests.{eqb-true, eqb-false, le-leb}
 use lib.Dec.{eqb}
 use Rattle.checks.specs.Checks.{firstMet}
 use Rattle.families.specs.Families.{familyOf, IsNode, nodeCount, nodeOf}
-use Rattle.families.proofs.Proved.{family-claims}
 use Rattle.checks.specs.Claims.{InRange}
 use Rattle.checks.proofs.Laws.{range-claim}
 use Rattle.boxes.specs.Box.{bodyChecks, bodyOf}
@@ -24,7 +21,7 @@ use Rattle.mogtriz.specs.Repairs.{steppedC, plannedC, ranC}
 use Rattle.mogtriz.specs.Claims.{ThereAndBackClaim, BackAndThereClaim, StartedMarksClaim, HandedBackClaim, RefusedStartClaim, TurnedAwayClaim, ThirteenC, ThirteenCClaim, SameFieldsClaim, PartOf, PartClaim, AnswersClaim, AgreeClaim}
 use Rattle.mogtriz.proofs.Laws.{count-accepted}
 use Rattle.mogtriz.proofs.MarkLaws.{marks-back, bytes-back, marks-low}
-use Rattle.mogtriz.proofs.AnswerLaws.{kept-session, either, step-low, run-low, step-done, run-done, handed-on, plan-kept, write-kept, read-out-kept}
+use Rattle.mogtriz.proofs.AnswerLaws.{kept-session, step-low, run-low, step-done, run-done, handed-on, plan-kept, write-kept, read-out-kept}
 
 pub there-and-back : ThereAndBackClaim
 unfolding sessionOfC
@@ -61,7 +58,7 @@ turned-away-claim s =
       plan = λ out h. let r = own .plan (sessionOfC s) out h in (rw (r .0), r .1);
       run = λ nodes h. let r = own .run (sessionOfC s) nodes h in (rw (kept-session s _ _ h, r .0), r .1);
       write = λ nodes list out h. let r = own .write (sessionOfC s) nodes list out h in (rw (r .0), r .1);
-      read-out = λ nodes object h. own .read-out (sessionOfC s) nodes object h .1;
+      read-out = λ nodes object h. let r = own .read-out (sessionOfC s) nodes object h in (rw (r .0), r .1);
     }
 
 -- a session with a byte above 1 is taken in as one that no start gives
@@ -101,16 +98,9 @@ module _ (family k : ℕ) (range : InRange family k 1) where
   unfolding isNode
   is-a-node j n = rw count-is (simp (le-leb 1 j (n .first), le-leb j (nodeCount (familyOf family) k) (n .last)))
 
-  -- where there is no such node 0 is given either way
   node-is : (c : ℕ) → nodeOr0 family k c ≡ nodeOf (familyOf family) k c
   unfolding nodeOr0
-  node-is c = go (ℕ-discrete (nodeOf (familyOf family) k c) 0)
-    where
-      go : Dec (nodeOf (familyOf family) k c ≡ 0) → nodeOr0 family k c ≡ nodeOf (familyOf family) k c
-      go (yes z) = rw z (either (λ (n : ℕ). n ≡ 0) (eqb (nodeCountOr0 family k) 0) refl refl)
-      go (no n) =
-          let there = family-claims (familyOf family) k (range .blocks) .node c n in
-          rw (ne-eqb (nodeCountOr0 family k) 0 (λ z. omega (arith, z, count-is, there .first, there .last)))
+  node-is c = rw (range-claim family k 1 .1 range)
 
 pub answers-claim : AnswersClaim
 unfolding columnOr0 relatedOr0

@@ -5,6 +5,7 @@ use mathlib.Core.Bool.{true, false, cond}
 use mathlib.Core.List.{List, _∷_, _++_}
 use mathlib.Core.Logic.{_↔_, _⊎_}
 use Prim.Native.Nat.{ℕ, _*_, _≤_, _<_}
+use lib.Dec.{eqb}
 use lib.ListN.{length, getD, take, drop, replicate}
 use Rattle.lists.specs.Lists.{isIn}
 use Rattle.families.specs.Families.{familyOf, IsNode, nodeCount, columnOf, nodeOf, areRelated}
@@ -19,7 +20,7 @@ use Rattle.repair.specs.declared.Started.{Started}
 use Rattle.repair.specs.Session.{refusedStart, started, noStart}
 use Rattle.repair.specs.Refusals.{Refused}
 use Rattle.repair.specs.Boxed.{readBox, nodesRead, written, outWritten}
-use Rattle.repair.specs.ReadOut.{readOut, objectOut}
+use Rattle.repair.specs.ReadOut.{missingIn, readOut, objectOut}
 use Rattle.repair.specs.Step.{stepped, nodesStepped}
 use Rattle.repair.specs.Repairs.{planned, outPlanned, ran, nodesRan}
 use Rattle.repair.specs.Calls.{Move, run, State, Call, liveAfter, stateAfter}
@@ -85,7 +86,9 @@ pub record TurnedAway (s : MarkedSession) : Type 0 where
       → (ranC s nodes ≡ record { refusal = ranC s nodes .refusal; steps = 0; rounds = 0; left = 0; session = s }) × (nodesRan (sessionOfC s) nodes ≡ nodes)
   pub write : (nodes list out : List ℕ) → Refused (writtenC s nodes list out .refusal)
       → (writtenC s nodes list out ≡ record { refusal = writtenC s nodes list out .refusal; length = 0; session = s }) × (outWritten (sessionOfC s) nodes list out ≡ out)
-  pub read-out : (nodes object : List ℕ) → Refused (readOutC s nodes object .refusal) → objectOut (sessionOfC s) nodes object ≡ object
+  pub read-out : (nodes object : List ℕ) → Refused (readOutC s nodes object .refusal)
+      → (readOutC s nodes object ≡ record { refusal = readOutC s nodes object .refusal; block = cond (eqb (readOutC s nodes object .refusal) 14) (missingIn (sessionOfC s)) 0; session = s })
+      × (objectOut (sessionOfC s) nodes object ≡ object)
 
 abbrev pub TurnedAwayClaim : Type 0
 TurnedAwayClaim = (s : MarkedSession) → TurnedAway s
@@ -104,8 +107,8 @@ ThirteenCClaim = (s : MarkedSession) → (someAbove1 (s .live) ≡ true) ⊎ (no
 
 -- ---- the calls agree
 
--- of a session in C's form, each call gives C what the session's own operation gives. Of a lent buffer nothing is left to say: it
--- holds what the own operation leaves for the session that comes back from C, and that is the same session (ThereAndBackClaim)
+-- of a session in C's form, each call gives C what the session's own operation gives; a lent buffer holds what that leaves for
+-- sessionOfC (sessionForC s), which is s (`ThereAndBackClaim`)
 pub record Agree (s : Session) : Type 0 where
   -- mogtriz_step
   pub step : (nodes : List ℕ) (j a b : ℕ)
@@ -149,7 +152,7 @@ PartClaim = (bytes : List ℕ) (j : ℕ) → PartOf bytes j
 
 -- ---- families
 
--- of a family's number and a k that are in range, whatever L is: 1, 2 and 3 are refused as for L 1
+-- of a family's number and a k in range; L plays no part, and 1 stands for it
 pub record Answers (family k : ℕ) : Type 0 where
   -- mogtriz_node_count gives n, mogtriz_column a node's column, and mogtriz_node_of_column the node of a column
   pub count : nodeCountOr0 family k ≡ nodeCount (familyOf family) k
@@ -197,7 +200,7 @@ pub record OwnC (object : List ℕ) (s : MarkedSession) (nodes : List ℕ) (move
   pub out : (result : List ℕ) → readOutC (stateAfter calledC s nodes moves .session) (stateAfter calledC s nodes moves .nodes) result .refusal ≡ 0
       → objectOut (sessionOfC (stateAfter calledC s nodes moves .session)) (stateAfter calledC s nodes moves .nodes) result ≡ object
 
--- a session with a byte above 1 is refused by every call, so the bytes may be any
+-- of a session with a byte above 1 it says nothing: every call refuses it, and the session of zeros has no live node
 abbrev pub OwnCClaim : Type 0
 OwnCClaim = (object : List ℕ) (s : MarkedSession) (nodes : List ℕ) → length (s .live) ≡ 256 → length object ≡ s .k * s .len
     → LiveAreOwn object (sessionOfC s) nodes → (moves : List Move) → OwnC object s nodes moves

@@ -1,7 +1,7 @@
 -- What the C functions on families give for any numbers: 0 where the family or k is out of range, or a number is no node's.
 use Prim.Native.Nat.{ℕ}
 use mathlib.Core.Bool.{Bool, cond, _&&_}
-use lib.Dec.{eqb, leb}
+use lib.Dec.{leb}
 use Rattle.families.specs.Families.{familyOf, nodeCount, columnOf, nodeOf, areRelated}
 use Rattle.checks.specs.Checks.{answer}
 use Rattle.checks.specs.Parameters.{parameterChecks}
@@ -24,7 +24,7 @@ columnOr0 family k j = cond (isNode family k j) (columnOf (familyOf family) k j)
 
 -- the node with a column; 0 where there is none
 unfoldable pub nodeOr0 : ℕ → ℕ → ℕ → ℕ
-nodeOr0 family k column = cond (eqb (nodeCountOr0 family k) 0) 0 (nodeOf (familyOf family) k column)
+nodeOr0 family k column = answer (parameterChecks family k 1) (nodeOf (familyOf family) k column) (λ number. 0)
 
 -- 1 where the three are nodes and related, else 0
 unfoldable pub relatedOr0 : ℕ → ℕ → ℕ → ℕ → ℕ → ℕ

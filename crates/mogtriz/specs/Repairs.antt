@@ -1,4 +1,5 @@
--- What step, plan and run give C: what the session's own give, with the session that C gets.
+-- What step, plan and run give C: what the session's own give for `sessionOfC`, 13 for a byte above 1 with them, and a session for C.
+-- A lent buffer holds what the own operation leaves.
 use Prim.Native.Nat.{ℕ}
 use mathlib.Core.Bool.{cond}
 use mathlib.Core.List.{List}
@@ -16,7 +17,7 @@ use Rattle.mogtriz.specs.Sessions.{sessionForC, sessionOfC}
 unfoldable pub handedBack : MarkedSession → ℕ → Session → MarkedSession
 handedBack s refusal next = cond (eqb refusal 0) (sessionForC next) s
 
--- a step: node j from nodes a and b
+-- what a step gives: node j from nodes a and b
 unfoldable pub steppedC : MarkedSession → List ℕ → ℕ → ℕ → ℕ → StepAnswer
 steppedC s nodes j a b = let own = stepped (sessionOfC s) nodes j a b in record { refusal = own .refusal; session = handedBack s (own .refusal) (own .session) }
 
@@ -25,10 +26,10 @@ abbrev pub repairsC : Repairs → MarkedSession → RepairsAnswer
 repairsC own given =
     record { refusal = own .refusal; steps = own .steps; rounds = own .rounds; left = own .left; session = given }
 
--- a plan: the session as handed in
+-- what a plan gives: the session as handed in
 unfoldable pub plannedC : MarkedSession → List ℕ → RepairsAnswer
 plannedC s out = repairsC (planned (sessionOfC s) out) s
 
--- a run: the plan's steps made
+-- what a run gives: the plan's steps are made
 unfoldable pub ranC : MarkedSession → List ℕ → RepairsAnswer
 ranC s nodes = let own = ran (sessionOfC s) nodes in repairsC own (handedBack s (own .refusal) (own .session))

@@ -21,11 +21,11 @@ use Rattle.mogtriz.specs.declared.sessions.Part.{Part}
 abbrev pub byteOf : Bool → ℕ
 byteOf live = cond live 1 0
 
--- the mark of a byte: 1 live, any other missing
+-- the mark of a byte that is 0 or 1: 1 live, 0 missing
 abbrev pub markOf : ℕ → Bool
 markOf byte = eqb byte 1
 
--- a byte is neither 0 nor 1
+-- one of the bytes is above 1
 unfoldable pub someAbove1 : List ℕ → Bool
 someAbove1 [] = false
 someAbove1 (byte ∷ bytes) = ltb 1 byte || someAbove1 bytes
@@ -34,7 +34,8 @@ someAbove1 (byte ∷ bytes) = ltb 1 byte || someAbove1 bytes
 abbrev pub sessionForC : Session → MarkedSession
 sessionForC s = record { family = s .family; k = s .k; len = s .len; live = map byteOf (s .live) }
 
--- the session that C's is; with a byte above 1 it is one that no start gives, and the session of zeros stands for it
+-- C's session as the library's. One with a byte above 1 becomes the session of zeros, which no start gives: every call on it gives
+-- 13 (`ThirteenCClaim`)
 unfoldable pub sessionOfC : MarkedSession → Session
 sessionOfC s =
     cond (someAbove1 (s .live)) (sessionWith 0 0 0 noneLive) (sessionWith (s .family) (s .k) (s .len) (map markOf (s .live)))

@@ -65,7 +65,7 @@ pub extern "C" fn mogtriz_column(family: usize, k: usize, node: usize) -> usize
 pub extern "C" fn mogtriz_node_of_column(family: usize, k: usize, column: usize) -> usize
     ensures { λ r. ⌜ r ≡ nodeOr0 family k column ⌝ }
 {
-    if mogtriz_node_count(family, k) == 0 {
+    if checks::parameter_refusal(family, k, 1) != 0 {
         return 0;
     }
     families::node_of(families::family_of(family), k, column)

@@ -21,7 +21,7 @@ pub record Step : Type 0 where
 unfoldable pub isRepaired : Family → ℕ → List Bool → ℕ → Bool
 isRepaired f k marks j = not (isLive marks j) && ltb 0 (smallerNode f k marks j)
 
--- its step in round r
+-- the step of round r that repairs node j
 abbrev pub stepOf : Family → ℕ → List Bool → ℕ → ℕ → Step
 stepOf f k marks r j = let a = smallerNode f k marks j in record { round = r; node = j; smaller = a; larger = largerNode f k marks j a }
 
@@ -38,7 +38,7 @@ abbrev pub marksAfter : List Bool → List Step → List Bool
 marksAfter marks steps = setLive marks (repairedNodes steps)
 
 -- the rounds r, r + 1, .., of which there are m; a node repaired in a round serves from the next. A round without repairs leaves
--- the marks, and so all rounds after it are without: it ends the plan (`PlanClaims`)
+-- the marks, so that no later one has a step: it ends the plan (`PlanClaims`)
 unfoldable pub roundsFrom : Family → ℕ → ℕ → List Bool → ℕ → List Step
 roundsFrom f k r marks zero = []
 roundsFrom f k r marks (suc m) = let steps = roundSteps f k marks r in steps ++ roundsFrom f k (suc r) (marksAfter marks steps) m

@@ -11,7 +11,7 @@ use lib.Seq.{getD-set-same, getD-set-other}
 use Rattle.families.specs.declared.Family.{Family}
 use Rattle.families.specs.Families.{KInRange, IsNode, nodeCount}
 use Rattle.families.proofs.Laws.{few}
-use Rattle.checks.proofs.Laws.{outside-no}
+use Rattle.base.proofs.RangeLaws.{outside-no}
 use Rattle.lists.specs.Lists.{someOutside, noneLive, isLive, setLive, isIn}
 use Rattle.lists.proofs.Laws.{length-setLive, live-of-list}
 use Rattle.lists.proofs.MarkLaws.{live-keeps, live-append}

@@ -59,14 +59,14 @@ start-kept s j n e =
 -- ---- a step, accepted
 
 -- what it gives
-abbrev pub sessionWith : Session → Step → Session
-sessionWith s made = withLive s (made .node ∷ [])
+abbrev pub sessionMade : Session → Step → Session
+sessionMade s made = withLive s (made .node ∷ [])
 
 abbrev pub nodesWith : Session → List ℕ → Step → List ℕ
 nodesWith s nodes made = mended (s .len) nodes (made .node) (made .smaller) (made .larger)
 
 module _ (s : Session) (nodes : List ℕ) (made : Step) (w : AcceptedStep s nodes made) where
-  pub session-stepped : stepped s nodes (made .node) (made .smaller) (made .larger) .session ≡ sessionWith s made
+  pub session-stepped : stepped s nodes (made .node) (made .smaller) (made .larger) .session ≡ sessionMade s made
   unfolding stepped
   session-stepped = rw (step-accepted s nodes made w)
 
@@ -94,7 +94,7 @@ module _ (s : Session) (nodes : List ℕ) (made : Step) (w : AcceptedStep s node
   block-kept : (i : ℕ) → IsNode (familyOf (s .family)) (s .k) i → (i ≡ made .node → ⊥) → blockOf (s .len) (nodesWith s nodes made) i ≡ blockOf (s .len) nodes i
   block-kept i n d = blockOf-other (s .len) nodes (made .node) block (in-nodes (made .node) (w .makes .node)) full i (n .first) d
 
-  pub sized-stepped : Sized (sessionWith s made) (length (nodesWith s nodes made))
+  pub sized-stepped : Sized (sessionMade s made) (length (nodesWith s nodes made))
   sized-stepped =
       let m = w .makes in
       record {
@@ -115,14 +115,14 @@ steps-held s nodes [] z a = refl
 steps-held s nodes (x ∷ steps) z a =
     let w : AcceptedStep s nodes x = record { buffer = z; makes = a .0 } in
     ap₂ (λ (t : Session) (b : List ℕ). stateAfter called t b (map asMove steps)) (session-stepped s nodes x w) (nodes-stepped s nodes x w)
-    ∙ steps-held (sessionWith s x) (nodesWith s nodes x) steps (sized-stepped s nodes x w) (a .1)
+    ∙ steps-held (sessionMade s x) (nodesWith s nodes x) steps (sized-stepped s nodes x w) (a .1)
 
 -- the session and the buffer after them are again such as an operation accepts
 steps-sized : (s : Session) (nodes : List ℕ) (steps : List Step) → Sized s (length nodes) → CanMakeAll (familyOf (s .family)) (s .k) (s .live) steps
     → Sized (withLive s (repairedNodes steps)) (length (nodesMade (s .len) nodes steps))
 unfolding nodesMade setLive
 steps-sized s nodes [] z a = z
-steps-sized s nodes (x ∷ steps) z a = steps-sized (sessionWith s x) (nodesWith s nodes x) steps (sized-stepped s nodes x (record { buffer = z; makes = a .0 })) (a .1)
+steps-sized s nodes (x ∷ steps) z a = steps-sized (sessionMade s x) (nodesWith s nodes x) steps (sized-stepped s nodes x (record { buffer = z; makes = a .0 })) (a .1)
 
 -- no step of them repairs node j
 abbrev Apart : ℕ → List Step → Type 0
@@ -137,7 +137,7 @@ unfolding nodesMade setLive
 steps-keep s nodes [] z a j n d = refl
 steps-keep s nodes (x ∷ steps) z a j n d =
     let w : AcceptedStep s nodes x = record { buffer = z; makes = a .0 } in
-    steps-keep (sessionWith s x) (nodesWith s nodes x) steps (sized-stepped s nodes x w) (a .1) j n (d .1)
+    steps-keep (sessionMade s x) (nodesWith s nodes x) steps (sized-stepped s nodes x w) (a .1) j n (d .1)
     ∙ block-kept s nodes x w j n (d .0)
 
 -- such are the nodes that are missing after them
@@ -272,7 +272,7 @@ module _ (object : List ℕ) where
   OwnHeld held = Own (held .session) (held .nodes)
 
   own-made : (s : Session) (nodes : List ℕ) (made : Step) → AcceptedStep s nodes made → Own s nodes
-      → Own (sessionWith s made) (nodesWith s nodes made)
+      → Own (sessionMade s made) (nodesWith s nodes made)
   unfolding setLive
   own-made s nodes made w o = record { marks = length-set (s .live) (made .node) true ∙ o .marks; size = o .size; live = λ i n v. go i n v (ℕ-discrete i (made .node)) }
     where

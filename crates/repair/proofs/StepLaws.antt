@@ -10,8 +10,9 @@ use lib.ListN.{length}
 use Rattle.base.proofs.Tests.{or-neither}
 use Rattle.families.specs.Families.{familyOf, KInRange, IsNode, areRelated}
 use Rattle.checks.specs.Checks.{Check, _gives_, firstMet}
-use Rattle.checks.specs.Parameters.{outside}
-use Rattle.checks.proofs.Laws.{inside, outside-no, accepted, none-append, some-append, none-zero}
+use Rattle.base.specs.Ranges.{outside}
+use Rattle.base.proofs.RangeLaws.{inside, outside-no}
+use Rattle.checks.proofs.Laws.{accepted, none-append, some-append, none-zero}
 use Rattle.checks.proofs.AnswerLaws.{Gives, serves, refuses}
 use Rattle.lists.specs.Lists.{someOutside, isLive, someMissing}
 use Rattle.lists.proofs.Laws.{outside-none}

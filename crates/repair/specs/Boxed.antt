@@ -11,7 +11,7 @@ use Rattle.boxes.specs.Bodies.{boxOf, withBodies}
 use Rattle.repair.specs.declared.Session.{Session}
 use Rattle.repair.specs.declared.Started.{Started}
 use Rattle.repair.specs.declared.Written.{Written}
-use Rattle.repair.specs.Session.{sessionOf, refusedStart, nodeCountOf, nodesChecks}
+use Rattle.repair.specs.Session.{sessionOf, acceptedStart, refusedStart, nodeCountOf, nodesChecks}
 
 -- the session of a box: the named nodes live
 abbrev pub sessionIn : List ℕ → Session
@@ -19,7 +19,7 @@ sessionIn bytes = sessionOf (familyIn bytes) (kIn bytes) (blockLengthIn bytes) (
 
 -- a box checked alone gives its session
 unfoldable pub checkedBox : List ℕ → Started
-checkedBox bytes = answer (boxChecks bytes) (record { refusal = 0; session = sessionIn bytes }) refusedStart
+checkedBox bytes = answer (boxChecks bytes) (acceptedStart (sessionIn bytes)) refusedStart
 
 -- reading: the box's checks, then 6
 unfoldable pub readChecks : List ℕ → List ℕ → List Check
@@ -27,7 +27,7 @@ readChecks bytes nodes = boxChecks bytes ++ ((not (eqb (length nodes) (nodeCount
 
 -- what reading gives
 unfoldable pub readBox : List ℕ → List ℕ → Started
-readBox bytes nodes = answer (readChecks bytes nodes) (record { refusal = 0; session = sessionIn bytes }) refusedStart
+readBox bytes nodes = answer (readChecks bytes nodes) (acceptedStart (sessionIn bytes)) refusedStart
 
 -- the nodes buffer after reading: the bodies of the named nodes; places of missing nodes keep their bytes
 unfoldable pub nodesRead : List ℕ → List ℕ → List ℕ

@@ -4,19 +4,18 @@ use mathlib.Core.Bool.{true, false}
 use mathlib.Core.List.{List, [], _++_}
 use mathlib.Core.Logic.{_↔_}
 use Prim.Native.Nat.{ℕ, _*_, _≤_, _<_}
-use lib.Dec.{ltb}
 use lib.ListN.{length, getD, take, drop}
 use Rattle.families.specs.Families.{familyOf, nodeCount}
 use Rattle.blocks.specs.Blocks.{blockOf}
 use Rattle.checks.specs.Checks.{firstMet}
 use Rattle.checks.specs.Claims.{InRange}
 use Rattle.checks.specs.Parameters.{parameterChecks}
-use Rattle.lists.specs.Lists.{someOutside, rises, isLive, placeIn}
+use Rattle.lists.specs.Lists.{someOutside, rises, isIn, isLive}
 use Rattle.boxes.specs.Box.{familyIn, kIn, blockLengthIn, heldCountIn, zerosIn, namesIn, boxLength, bodyChecks, bodyOf}
 use Rattle.boxes.specs.Bodies.{boxOf}
 use Rattle.boxes.specs.Claims.{AcceptedBox, Named}
 use Rattle.repair.specs.declared.Session.{Session}
-use Rattle.repair.specs.Session.{sessionOf, refusedStart, started, nodeCountOf, noStart}
+use Rattle.repair.specs.Session.{sessionOf, acceptedStart, refusedStart, started, nodeCountOf, noStart}
 use Rattle.repair.specs.Boxed.{sessionIn, checkedBox, readBox, nodesRead, listed, writtenLength, written, outWritten}
 
 -- ---- start
@@ -29,7 +28,7 @@ StartClaim = (family k L : ℕ) (list : List ℕ)
 -- some accepted start gives exactly this session
 pub record FromStart (s : Session) : Type 0 where
   pub list : List ℕ
-  pub gives : started (s .family) (s .k) (s .len) list ≡ record { refusal = 0; session = s }
+  pub gives : started (s .family) (s .k) (s .len) list ≡ acceptedStart s
 
 -- 13 is due exactly where no start gives the session
 abbrev pub NoStartClaim : Type 0
@@ -38,7 +37,7 @@ NoStartClaim = (s : Session) → length (s .live) ≡ 256 → (noStart s ≡ fal
 -- mark j of an accepted start's session is live exactly when j is in the list
 abbrev pub StartMarksClaim : Type 0
 StartMarksClaim = (family k L : ℕ) (list : List ℕ) → started family k L list .refusal ≡ 0
-    → (j : ℕ) → j < 256 → isLive (started family k L list .session .live) j ≡ ltb (placeIn list j) (length list)
+    → (j : ℕ) → j < 256 → isLive (started family k L list .session .live) j ≡ isIn list j
 
 -- ---- write, then read
 
@@ -56,7 +55,7 @@ pub record WriteReadClaims (s : Session) (nodes list out : List ℕ) : Type 0 wh
   -- the box names the listed nodes, which are those of a list that is not empty, checks to their session, and reads, into whatever buffer, to the same bodies
   pub names : namesIn (boxWritten s nodes list out) ≡ listed s list
   pub by-list : (list ≡ [] → ⊥) → namesIn (boxWritten s nodes list out) ≡ list
-  pub checks : checkedBox (boxWritten s nodes list out) ≡ record { refusal = 0; session = sessionOf (s .family) (s .k) (s .len) (listed s list) }
+  pub checks : checkedBox (boxWritten s nodes list out) ≡ acceptedStart (sessionOf (s .family) (s .k) (s .len) (listed s list))
   pub reads : (other : List ℕ) → length other ≡ nodeCountOf s * s .len → readBox (boxWritten s nodes list out) other ≡ checkedBox (boxWritten s nodes list out)
   pub bodies : (other : List ℕ) → length other ≡ nodeCountOf s * s .len → (i : ℕ) → i < length (listed s list)
       → blockOf (s .len) (nodesRead (boxWritten s nodes list out) other) (getD (listed s list) i 0) ≡ blockOf (s .len) nodes (getD (listed s list) i 0)
@@ -104,7 +103,7 @@ pub record BoxSession (bytes : List ℕ) : Type 0 where
   -- it is as document 01 says
   pub form : AcceptedBox bytes
   -- its session has the named nodes live, and is the one that the start with its family, k, L and node numbers gives
-  pub is : checkedBox bytes ≡ record { refusal = 0; session = sessionIn bytes }
+  pub is : checkedBox bytes ≡ acceptedStart (sessionIn bytes)
   pub start : checkedBox bytes ≡ started (familyIn bytes) (kIn bytes) (blockLengthIn bytes) (namesIn bytes)
   -- a node not named is missing, and a named one is live
   pub named : (j : ℕ) → j < 256 → (isLive (checkedBox bytes .session .live) j ≡ true) ↔ Named bytes j

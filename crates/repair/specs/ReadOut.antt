@@ -23,12 +23,12 @@ readOutChecks s nodes object =
     ∷ (not (eqb (missingIn s) 0) gives 14)
     ∷ [])
 
--- what read out gives: refused, 14 comes with the lowest missing block and any other number with 0. The session stays
+-- what read out gives: refused, 14 comes with the lowest data block whose node is missing, any other number with 0. The session stays
 unfoldable pub readOut : Session → List ℕ → List ℕ → ReadOut
 readOut s nodes object =
     answer (readOutChecks s nodes object) (record { refusal = 0; block = 0; session = s })
     (λ number. record { refusal = number; block = cond (eqb number 14) (missingIn s) 0; session = s })
 
--- the object afterwards
+-- the object afterwards: the k data blocks
 unfoldable pub objectOut : Session → List ℕ → List ℕ → List ℕ
 objectOut s nodes object = afterwards (readOutChecks s nodes object) (dataBlocks (familyOf (s .family)) (s .k) (s .len) nodes (s .k)) object

@@ -19,7 +19,7 @@ planIn s = planOf (familyOf (s .family)) (s .k) (s .live)
 -- steps and rounds of a session's plan, its nodes left, which are those missing once the steps are made, and the session handed back
 abbrev pub repairsOf : Session → Session → Repairs
 repairsOf s next =
-    record { refusal = 0; steps = length (planIn s); rounds = lastRound (planIn s); left = nodesLeft (marksAfter (s .live) (planIn s)) (nodeCountOf s); session = next }
+    let plan = planIn s in record { refusal = 0; steps = length plan; rounds = lastRound plan; left = nodesLeft (marksAfter (s .live) plan) (nodeCountOf s); session = next }
 
 -- a refusal: its number and zeros, the session as handed in
 abbrev pub refusedRepairs : Session → ℕ → Repairs
@@ -37,7 +37,7 @@ planned s out = answer (planChecks s out) (repairsOf s s) (refusedRepairs s)
 unfoldable pub outPlanned : Session → List ℕ → List ℕ
 outPlanned s out = afterwards (planChecks s out) (stepBytes (planIn s) ++ drop (4 * length (planIn s)) out) out
 
--- what a run gives, its checks being 13 and 6: the next session has the repaired nodes live
+-- what a run gives (Run: 13, 6): the next session has the repaired nodes live
 unfoldable pub ran : Session → List ℕ → Repairs
 ran s nodes = answer (nodesChecks s (length nodes)) (repairsOf s (withLive s (repairedNodes (planIn s)))) (refusedRepairs s)
 

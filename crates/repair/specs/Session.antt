@@ -14,11 +14,15 @@ use Rattle.repair.specs.declared.Started.{Started}
 abbrev pub sessionWith : ℕ → ℕ → ℕ → List Bool → Session
 sessionWith family k L marks = record { family = family; k = k; len = L; live = marks }
 
--- the nodes of a list live
+-- a session with the nodes of a list live and every other mark missing
 abbrev pub sessionOf : ℕ → ℕ → ℕ → List ℕ → Session
 sessionOf family k L list = sessionWith family k L (setLive noneLive list)
 
--- a refused start or box gives a session of zeros with every mark missing
+-- an accepted start or box gives 0 and its session
+abbrev pub acceptedStart : Session → Started
+acceptedStart s = record { refusal = 0; session = s }
+
+-- a refused one gives its number and a session of zeros with every mark missing
 abbrev pub refusedStart : ℕ → Started
 refusedStart number = record { refusal = number; session = sessionWith 0 0 0 noneLive }
 
@@ -28,13 +32,13 @@ startChecks family k L list = parameterChecks family k L ++ listChecks (nodeCoun
 
 -- what a start gives
 unfoldable pub started : ℕ → ℕ → ℕ → List ℕ → Started
-started family k L list = answer (startChecks family k L list) (record { refusal = 0; session = sessionOf family k L list }) refusedStart
+started family k L list = answer (startChecks family k L list) (acceptedStart (sessionOf family k L list)) refusedStart
 
 -- n of a session's family and k
 abbrev pub nodeCountOf : Session → ℕ
 nodeCountOf s = nodeCount (familyOf (s .family)) (s .k)
 
--- 13: its family, k or L is out of range, or a mark for 0 or above n is live
+-- 13, no start gives this session: its family, k or L is out of range, or a mark for 0 or above n is live
 unfoldable pub noStart : Session → Bool
 noStart s = not (eqb (firstMet (parameterChecks (s .family) (s .k) (s .len))) 0) || liveOutside (nodeCountOf s) (s .live)
 

@@ -15,7 +15,7 @@ use Rattle.leftover.specs.Open.{Open}
 use Rattle.readout.specs.DataBlocks.{dataNode}
 use Rattle.repair.specs.declared.Session.{Session}
 use Rattle.repair.specs.declared.Started.{Started}
-use Rattle.repair.specs.Session.{started, nodeCountOf, noStart}
+use Rattle.repair.specs.Session.{acceptedStart, started, nodeCountOf, noStart}
 use Rattle.repair.specs.Boxed.{checkedBox, readBox, nodesRead, written}
 use Rattle.repair.specs.ReadOut.{readOut, objectOut}
 use Rattle.repair.specs.Repairs.{ran, nodesRan}
@@ -57,7 +57,7 @@ pub record FitsClaim : Type 0 where
 -- the box of every live node checks to the session that it was written from
 abbrev pub WriteLiveClaim : Type 0
 WriteLiveClaim = (s : Session) (nodes out : List ℕ) → length (s .live) ≡ 256 → written s nodes [] out .refusal ≡ 0
-    → checkedBox (boxWritten s nodes [] out) ≡ record { refusal = 0; session = s }
+    → checkedBox (boxWritten s nodes [] out) ≡ acceptedStart s
 
 -- ---- the object's own blocks
 

@@ -3,7 +3,7 @@ use crate::Session;
 use crate::Stepped;
 ghost use mathlib.Core.Path.{_≡_};
 ghost use Rattle.checks.specs.Checks.{firstMet};
-ghost use Rattle.checks.specs.Parameters.{outside};
+ghost use Rattle.base.specs.Ranges.{outside};
 ghost use Rattle.repair.specs.Step.{stepChecks, stepped, nodesStepped};
 
 // Whether a node number is 0 or above n.

@@ -1,4 +1,4 @@
--- What reading an input gives. Assumes nothing.
+-- What reading an input gives.
 use Prim.Native.Nat.{ℕ, _+_, _<_}
 use mathlib.Core.Path.{_≡_}
 use mathlib.Core.Bool.{true, false}

@@ -31,7 +31,7 @@ returns-4 c =
     let l : tie.After-names = search in
     let p : tie.After-place-in = search in
     sym (by-missing _ _ (passed (search)) (omega arith) (omega (arith, n .node-count .ensures))
-    (omega (arith, rw (l .names .ensures) at (p .place-in .ensures), h .held-count .ensures, c .if4 .taken)))
+    (omega (arith, rw (l .names .ensures) at (p .place-in .ensures), h .held-count .ensures, accepted-box _ (passed (search)) .names-size, c .if4 .taken)))
 
 returns-5 : tie.Need-returns-5
 returns-5 c =
@@ -40,7 +40,7 @@ returns-5 c =
     let l : tie.After-names = search in
     let p : tie.After-place-in = search in
     sym (by-none _ _ (passed (search)) (omega arith) (omega (arith, n .node-count .ensures))
-    (omega (arith, rw (l .names .ensures) at (p .place-in .ensures), h .held-count .ensures, c .if4 .left)))
+    (omega (arith, rw (l .names .ensures) at (p .place-in .ensures), h .held-count .ensures, accepted-box _ (passed (search)) .names-size, c .if4 .left)))
 
 pub body-refusal-spec : {M : Type 1} → statement M
 body-refusal-spec =

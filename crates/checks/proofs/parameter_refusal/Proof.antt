@@ -4,8 +4,9 @@ use mathlib.Core.Path.{_≡_, _∙_, ap}
 use mathlib.Core.Bool.{false}
 use Rattle.families.specs.Families.{familyOf, leastK, mostK}
 use Rattle.checks.specs.Checks.{firstMet}
-use Rattle.checks.specs.Parameters.{mostL, outside, parameterChecks}
-use Rattle.checks.proofs.Laws.{outside-low, outside-high, outside-no}
+use Rattle.base.specs.Ranges.{outside}
+use Rattle.checks.specs.Parameters.{mostL, parameterChecks}
+use Rattle.base.proofs.RangeLaws.{outside-low, outside-high, outside-no}
 use borrow.Author.Needs.{needs}
 use native.Mathlib.Omega.{arith}
 use Rattle.checks.proofs.parameter_refusal.Statement.{statement}

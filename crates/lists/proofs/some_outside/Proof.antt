@@ -6,7 +6,7 @@ use denote.Ref.{now}
 use lib.ListN.{length, drop, getD}
 use native.Mathlib.Omega.{arith}
 use borrow.Author.Needs.{needs}
-use Rattle.checks.proofs.Laws.{outside-low, outside-high, outside-no}
+use Rattle.base.proofs.RangeLaws.{outside-low, outside-high, outside-no}
 use Rattle.lists.proofs.Walks.{outside-step, outside-end}
 use Rattle.lists.specs.Lists.{someOutside}
 use Rattle.lists.proofs.some_outside.Statement.{statement}

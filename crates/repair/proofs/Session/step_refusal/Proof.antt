@@ -10,7 +10,7 @@ use lib.ListN.{length}
 use Rattle.families.specs.Families.{familyOf, KInRange, areRelated}
 use Rattle.families.proofs.Laws.{few}
 use Rattle.checks.specs.Checks.{_gives_, firstMet}
-use Rattle.checks.specs.Parameters.{outside}
+use Rattle.base.specs.Ranges.{outside}
 use Rattle.lists.specs.Lists.{someOutside, isLive, someMissing}
 use Rattle.repair.specs.Session.{nodeCountOf, nodesChecks}
 use Rattle.repair.specs.Step.{stepChecks}

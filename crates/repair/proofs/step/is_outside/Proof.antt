@@ -3,7 +3,7 @@
 use mathlib.Core.Path.{sym}
 use native.Mathlib.Omega.{arith}
 use borrow.Author.Tests.{le-ltb}
-use Rattle.checks.proofs.Laws.{outside-low}
+use Rattle.base.proofs.RangeLaws.{outside-low}
 use Rattle.repair.proofs.step.is_outside.Statement.{statement}
 use Rattle.repair.proofs.step.is_outside.Tie as tie
 
