@@ -55,11 +55,7 @@ boxChecks bytes =
 
 -- for a body: the box's checks, then 4 and 12
 unfoldable pub bodyChecks : List ℕ → ℕ → List Check
-bodyChecks bytes j =
-    boxChecks bytes
-    ++ ((outside 1 (nodeCountIn bytes) j gives 4)
-    ∷ (not (isIn (namesIn bytes) j) gives 12)
-    ∷ [])
+bodyChecks bytes j = boxChecks bytes ++ ((outside 1 (nodeCountIn bytes) j gives 4) ∷ (not (isIn (namesIn bytes) j) gives 12) ∷ [])
 
 -- the place of node j's body among the bodies, from 0: that of its number among the node numbers
 abbrev pub bodyPlace : List ℕ → ℕ → ℕ

@@ -18,10 +18,7 @@ missingIn s = missingBlock (familyOf (s .family)) (s .k) (s .live)
 -- Read out: 13, 6 for the nodes or the object, 14
 unfoldable pub readOutChecks : Session → List ℕ → List ℕ → List Check
 readOutChecks s nodes object =
-    nodesChecks s (length nodes)
-    ++ ((not (eqb (length object) (s .k * s .len)) gives 6)
-    ∷ (not (eqb (missingIn s) 0) gives 14)
-    ∷ [])
+    nodesChecks s (length nodes) ++ ((not (eqb (length object) (s .k * s .len)) gives 6) ∷ (not (eqb (missingIn s) 0) gives 14) ∷ [])
 
 -- what read out gives: refused, 14 comes with the lowest data block whose node is missing, any other number with 0. The session stays
 unfoldable pub readOut : Session → List ℕ → List ℕ → ReadOut
