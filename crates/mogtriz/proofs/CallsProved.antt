@@ -54,10 +54,10 @@ own-agrees : (object : List ℕ) (s : Session) (nodes : List ℕ) (moves : List 
 unfolding readOut
 own-agrees object s nodes moves o =
     let after = stateAfter called s nodes moves in
-    let held = state-agrees s nodes moves in
+    let same-state = state-agrees s nodes moves in
     record {
-      live = rw held (subst (λ (t : Session). LiveAreOwn object t (after .nodes)) (sym (there-and-back (after .session))) (o .live));
-      out = λ result. rw (held, agree-claim (after .session) .read-out (after .nodes) result, there-and-back (after .session)) (o .out result);
+      live = rw same-state (subst (λ (t : Session). LiveAreOwn object t (after .nodes)) (sym (there-and-back (after .session))) (o .live));
+      out = λ result. rw (same-state, agree-claim (after .session) .read-out (after .nodes) result, there-and-back (after .session)) (o .out result);
     }
 
 pub own-c-claim : OwnCClaim
@@ -65,8 +65,8 @@ own-c-claim object s nodes marks size live moves = go (someAbove1 (s .live)) ref
   where
     go : (above : Bool) → someAbove1 (s .live) ≡ above → OwnC object s nodes moves
     go true e =
-        let held = state-stays s e nodes moves in
-        record { live = rw held live; out = λ result a. absurd (omega (arith, rw held at a, thirteen-c-claim s (inl e) .read-out nodes result)) }
+        let same-state = state-stays s e nodes moves in
+        record { live = rw same-state live; out = λ result a. absurd (omega (arith, rw same-state at a, thirteen-c-claim s (inl e) .read-out nodes result)) }
     go false e =
         let is = back-and-there s e in
         let n = sym (length-map (sessionOfC s .live) byteOf) ∙ ap (λ (t : MarkedSession). length (t .live)) is ∙ marks in
@@ -151,10 +151,10 @@ module _ (way : Way) (on : OnTheWayC way) (moves : List Move) where
 
 pub whole-way-c-claim : WholeWayCClaim
 whole-way-c-claim way on moves =
-    let held = state-is way on moves in
+    let same-state = state-is way on moves in
     record {
       own = rw (same way on moves) (own-read way on moves);
-      runs = rw (held, agree-claim (stateAt way moves .session) .run (stateAt way moves .nodes)) (whole way on moves .runs);
-      back = λ result size M some. rw (held, same way on moves) (back way on moves result size M some);
-      again = λ result. rw held (again way on moves result);
+      runs = rw (same-state, agree-claim (stateAt way moves .session) .run (stateAt way moves .nodes)) (whole way on moves .runs);
+      back = λ result size M some. rw (same-state, same way on moves) (back way on moves result size M some);
+      again = λ result. rw same-state (again way on moves result);
     }

@@ -58,8 +58,8 @@ module _ (input : List ℕ) (passes : checkedBox input .refusal ≡ 0) where
     abbrev given : Session
     given = checkedBox input .session
 
-    abbrev held : List ℕ
-    held = nodesRead input nodes
+    abbrev buffer : List ℕ
+    buffer = nodesRead input nodes
 
     pub read-is : readBox input nodes ≡ checkedBox input
     read-is = fits-claim .read input nodes passes size
@@ -67,36 +67,36 @@ module _ (input : List ℕ) (passes : checkedBox input .refusal ≡ 0) where
     pub reads : readBox input nodes .refusal ≡ 0
     reads = ap (λ (r : Started). r .refusal) read-is ∙ passes
 
-    pub held-fits : Fits given held
-    held-fits = rw read-is at (fits-claim .read-fits input nodes reads)
+    pub buffer-fits : Fits given buffer
+    buffer-fits = rw read-is at (fits-claim .read-fits input nodes reads)
 
-    pub runs : ran given held .refusal ≡ 0
-    runs = fits-claim .run given held held-fits
+    pub runs : ran given buffer .refusal ≡ 0
+    runs = fits-claim .run given buffer buffer-fits
 
     -- the session that is written from has the box's family, k and L, and fits the nodes buffer
-    pub same : SameCode given (afterRun given held)
-    same = let s = fits-claim .same given held run in record { family = cc; k = cc; len = cc }
+    pub same : SameCode given (afterRun given buffer)
+    same = let s = fits-claim .same given buffer run in record { family = cc; k = cc; len = cc }
 
-    pub after-fits : Fits (afterRun given held) (nodesRan given held)
+    pub after-fits : Fits (afterRun given buffer) (nodesRan given buffer)
     after-fits =
-        let before = held-fits in
-        let after = fits-claim .call given held held-fits run in
-        let s = fits-claim .same given held run in
+        let before = buffer-fits in
+        let after = fits-claim .call given buffer buffer-fits run in
+        let s = fits-claim .same given buffer run in
         record { marks = cc; starts = cc; size = cc }
 
     module _ (out : List ℕ) (room : boxLength (nodeCountIn input) (blockLengthIn input) ≤ length out) where
-      enough : boxLength (nodeCountOf (afterRun given held)) (afterRun given held .len) ≤ length out
+      enough : boxLength (nodeCountOf (afterRun given buffer)) (afterRun given buffer .len) ≤ length out
       enough = rw (same .family, same .k, same .len, session-is) room
 
-      pub written-claims : WriteReadClaims (afterRun given held) (nodesRan given held) [] out
-      written-claims = write-read-claim (afterRun given held) (nodesRan given held) [] out (fits-claim .write (afterRun given held) (nodesRan given held) out after-fits enough)
+      pub written-claims : WriteReadClaims (afterRun given buffer) (nodesRan given buffer) [] out
+      written-claims = write-read-claim (afterRun given buffer) (nodesRan given buffer) [] out (fits-claim .write (afterRun given buffer) (nodesRan given buffer) out after-fits enough)
 
 -- ---- what the refiller writes
 
 -- the box as it is read into a part of a buffer of zeros
-pub held-is : (input all : List ℕ) (m size : ℕ) → all ≡ replicate m 0 → size ≤ m → size ≡ nodeCountIn input * blockLengthIn input → nodesRead input (take size all) ≡ nodesGiven input
+pub read-given : (input all : List ℕ) (m size : ℕ) → all ≡ replicate m 0 → size ≤ m → size ≡ nodeCountIn input * blockLengthIn input → nodesRead input (take size all) ≡ nodesGiven input
 unfolding nodesGiven
-held-is input all m size e h f = ap (nodesRead input) (zeros-part all m size e h ∙ ap (λ (n : ℕ). replicate n 0) f)
+read-given input all m size e h f = ap (nodesRead input) (zeros-part all m size e h ∙ ap (λ (n : ℕ). replicate n 0) f)
 
 module _ (input : List ℕ) (a : Accepted input) where
   pub refilled-long : 65536 < boxLength (nodeCountIn input) (blockLengthIn input) → refilledOf input ≡ tooLongLine

@@ -34,7 +34,7 @@ use Rattle.repair.proofs.WholeWayProved.{write-live-claim, own-box-claim, missi
 use Rattle.listing.proofs.ListingLaws.{Accepted}
 use Rattle.refilling.specs.Refilled.{afterRun, boxAfterRun, nodesGiven, refilledOf}
 use Rattle.refilling.specs.Claims.{RefilledClaim}
-use Rattle.refilling.proofs.Laws.{box, session-is, same, read-is, reads, held-fits, runs, after-fits, written-claims, refilled-is}
+use Rattle.refilling.proofs.Laws.{box, session-is, same, read-is, reads, buffer-fits, runs, after-fits, written-claims, refilled-is}
 
 -- ---- what is written of an accepted box that is not too long
 
@@ -56,15 +56,15 @@ module _ (input : List ℕ) (passes : checkedBox input .refusal ≡ 0) (short : 
   zeros-fit : length zeros ≡ nodeCountIn input * blockLengthIn input
   zeros-fit = length-replicate (nodeCountIn input * blockLengthIn input) 0
 
-  abbrev held : List ℕ
-  held = nodesRead input zeros
+  abbrev buffer : List ℕ
+  buffer = nodesRead input zeros
 
   -- and written from there once the plan is run, into room for all nodes
   abbrev next : Session
-  next = afterRun given held
+  next = afterRun given buffer
 
   abbrev after : List ℕ
-  after = nodesRan given held
+  after = nodesRan given buffer
 
   abbrev room : List ℕ
   room = replicate (boxLength (nodeCountIn input) (blockLengthIn input)) 0
@@ -117,24 +117,24 @@ module _ (input : List ℕ) (passes : checkedBox input .refusal ≡ 0) (short : 
     low = omega (arith, node .last, family-claims (familyOf (familyIn input)) (kIn input) (box input passes .range .blocks) .few)
 
     -- those that are live in the session that it was written from
-    held-live : isIn (namesIn refilled) j ≡ isLive (next .live) j
-    held-live =
+    named-live : isIn (namesIn refilled) j ≡ isLive (next .live) j
+    named-live =
         let from = sym (box-start-claim refilled accepted .start) ∙ checked in
         sym (start-marks-claim (familyIn refilled) (kIn refilled) (blockLengthIn refilled) (namesIn refilled) (ap (λ (r : Started). r .refusal) from) j low)
         ∙ ap (λ (r : Started). isLive (r .session .live) j) from
 
     -- and after the run the missing ones are the open ones
-    missing : (M : ℕ) → 1 ≤ M → (isLive (ran given held .session .live) j ≡ false) ↔ Open (familyOf (familyIn input)) (kIn input) M (namesIn input) j
+    missing : (M : ℕ) → 1 ≤ M → (isLive (ran given buffer .session .live) j ≡ false) ↔ Open (familyOf (familyIn input)) (kIn input) M (namesIn input) j
     unfolding sessionAfterAll
     missing M some =
         let from = box-start-claim input passes .start in
-        subst (λ (r : Started). (isLive (ran (r .session) held .session .live) j ≡ false) ↔ Open (familyOf (familyIn input)) (kIn input) M (namesIn input) j) (sym from)
-        (missing-open-claim (familyIn input) (kIn input) (blockLengthIn input) (namesIn input) (ap (λ (r : Started). r .refusal) (sym from) ∙ passes) [] held
-        (subst (λ (r : Started). ran (r .session) held .refusal ≡ 0) from (runs input passes zeros zeros-fit))
+        subst (λ (r : Started). (isLive (ran (r .session) buffer .session .live) j ≡ false) ↔ Open (familyOf (familyIn input)) (kIn input) M (namesIn input) j) (sym from)
+        (missing-open-claim (familyIn input) (kIn input) (blockLengthIn input) (namesIn input) (ap (λ (r : Started). r .refusal) (sym from) ∙ passes) [] buffer
+        (subst (λ (r : Started). ran (r .session) buffer .refusal ≡ 0) from (runs input passes zeros zeros-fit))
         M some j node)
 
     holds : (M : ℕ) → 1 ≤ M → (isIn (namesIn refilled) j ≡ false) ↔ Open (familyOf (familyIn input)) (kIn input) M (namesIn input) j
-    holds M some = let m = missing M some in ((λ h. m .0 (sym held-live ∙ h)), (λ o. held-live ∙ m .1 o))
+    holds M some = let m = missing M some in ((λ h. m .0 (sym named-live ∙ h)), (λ o. named-live ∙ m .1 o))
 
   -- ---- its bodies
 
@@ -149,7 +149,7 @@ module _ (input : List ℕ) (passes : checkedBox input .refusal ≡ 0) (short : 
     live-before = box-start-claim input passes .named node (low node is-node) .1 (record { place = i; within = l; there = refl })
 
     at : Named refilled node
-    at = box-start-claim refilled accepted .named node (low node is-node) .0 (rw checked (live-stays given held run node live-before))
+    at = box-start-claim refilled accepted .named node (low node is-node) .0 (rw checked (live-stays given buffer run node live-before))
 
     names-are : namesIn refilled ≡ listed next []
     names-are = ap namesIn is-written ∙ wrote .names
@@ -165,18 +165,18 @@ module _ (input : List ℕ) (passes : checkedBox input .refusal ≡ 0) (short : 
     keeps =
         block-written
         ∙ ap (λ (L : ℕ). blockOf L after node) (same input passes zeros zeros-fit .len)
-        ∙ run-claim given (held-fits input passes zeros zeros-fit .marks) held (runs input passes zeros zeros-fit) .live-kept node
+        ∙ run-claim given (buffer-fits input passes zeros zeros-fit .marks) buffer (runs input passes zeros zeros-fit) .live-kept node
         (subst (λ (s : Session). IsNode (familyOf (s .family)) (s .k) node) (sym given-is) is-node) live-before
-        ∙ ap (λ (L : ℕ). blockOf L held node) (ap (λ (s : Session). s .len) given-is)
+        ∙ ap (λ (L : ℕ). blockOf L buffer node) (ap (λ (s : Session). s .len) given-is)
         ∙ read-body-claim input zeros (reads input passes zeros zeros-fit) i l
 
   own : (object : List ℕ) → length object ≡ kIn input * blockLengthIn input → BodiesAreOwn object input → BodiesAreOwn object refilled
   unfolding stateAfter
   own object size bodies =
       let c = own-box-claim in
-      let read-own : LiveAreOwn object given held
-      = subst (λ (r : Started). LiveAreOwn object (r .session) held) (read-is input passes zeros zeros-fit) (c .read object input zeros bodies (reads input passes zeros zeros-fit)) in
-      let moved = own-claim object given held (held-fits input passes zeros zeros-fit .marks) (size ∙ ap (λ (s : Session). s .k * s .len) (sym given-is)) read-own (run ∷ []) in
+      let read-own : LiveAreOwn object given buffer
+      = subst (λ (r : Started). LiveAreOwn object (r .session) buffer) (read-is input passes zeros zeros-fit) (c .read object input zeros bodies (reads input passes zeros zeros-fit)) in
+      let moved = own-claim object given buffer (buffer-fits input passes zeros zeros-fit .marks) (size ∙ ap (λ (s : Session). s .k * s .len) (sym given-is)) read-own (run ∷ []) in
       subst (BodiesAreOwn object) (sym is-written) (c .write object next after [] room (moved .live) writes)
 
 -- ---- refilled again
@@ -189,7 +189,7 @@ module _ (input : List ℕ) (passes : checkedBox input .refusal ≡ 0) (short : 
   start = checkedBox input .session
 
   abbrev read-first : List ℕ
-  read-first = held input passes short
+  read-first = buffer input passes short
 
   passes-again : checkedBox first .refusal ≡ 0
   passes-again = accepted input passes short
@@ -199,7 +199,7 @@ module _ (input : List ℕ) (passes : checkedBox input .refusal ≡ 0) (short : 
 
   -- what is read of the first box
   abbrev read-again : List ℕ
-  read-again = held first passes-again short-again
+  read-again = buffer first passes-again short-again
 
   reads-again : readBox first (zeros first passes-again short-again) .refusal ≡ 0
   reads-again = reads first passes-again (zeros first passes-again short-again) (zeros-fit first passes-again short-again)
@@ -213,8 +213,8 @@ module _ (input : List ℕ) (passes : checkedBox input .refusal ≡ 0) (short : 
 
   quiet : RunAgain start read-first read-again
   quiet =
-      let f = held-fits input passes (zeros input passes short) (zeros-fit input passes short) in
-      let g = held-fits first passes-again (zeros first passes-again short-again) (zeros-fit first passes-again short-again) in
+      let f = buffer-fits input passes (zeros input passes short) (zeros-fit input passes short) in
+      let g = buffer-fits first passes-again (zeros first passes-again short-again) (zeros-fit first passes-again short-again) in
       run-claim start (f .marks) read-first (runs input passes (zeros input passes short) (zeros-fit input passes short)) .again read-again
       (g .size ∙ ap room-of (session-is first passes-again) ∙ same-size ∙ ap room-of (sym (given-is input passes short)))
 

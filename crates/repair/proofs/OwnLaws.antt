@@ -108,14 +108,14 @@ module _ (s : Session) (nodes : List ℕ) (made : Step) (w : AcceptedStep s node
 abbrev asMove : Step → Move
 asMove made = step (made .node) (made .smaller) (made .larger)
 
-steps-held : (s : Session) (nodes : List ℕ) (steps : List Step) → Sized s (length nodes) → CanMakeAll (familyOf (s .family)) (s .k) (s .live) steps
+steps-state : (s : Session) (nodes : List ℕ) (steps : List Step) → Sized s (length nodes) → CanMakeAll (familyOf (s .family)) (s .k) (s .live) steps
     → stateAfter called s nodes (map asMove steps) ≡ record { session = withLive s (repairedNodes steps); nodes = nodesMade (s .len) nodes steps }
 unfolding stateAfter nodesMade setLive
-steps-held s nodes [] z a = refl
-steps-held s nodes (x ∷ steps) z a =
+steps-state s nodes [] z a = refl
+steps-state s nodes (x ∷ steps) z a =
     let w : AcceptedStep s nodes x = record { buffer = z; makes = a .0 } in
     ap₂ (λ (t : Session) (b : List ℕ). stateAfter called t b (map asMove steps)) (session-stepped s nodes x w) (nodes-stepped s nodes x w)
-    ∙ steps-held (sessionMade s x) (nodesWith s nodes x) steps (sized-stepped s nodes x w) (a .1)
+    ∙ steps-state (sessionMade s x) (nodesWith s nodes x) steps (sized-stepped s nodes x w) (a .1)
 
 -- the session and the buffer after them are again such as an operation accepts
 steps-sized : (s : Session) (nodes : List ℕ) (steps : List Step) → Sized s (length nodes) → CanMakeAll (familyOf (s .family)) (s .k) (s .live) steps
@@ -199,7 +199,7 @@ module _ (s : Session) (nodes : List ℕ) (e : firstMet (nodesChecks s (length n
 
   pub run-steps : length (s .live) ≡ 256 → stateAfter called s nodes (map asMove (planIn s)) ≡ record { session = ran s nodes .session; nodes = nodesRan s nodes }
   run-steps size =
-      steps-held s nodes (planIn s) run-sized (plan-makes size)
+      steps-state s nodes (planIn s) run-sized (plan-makes size)
       ∙ rw (session-ran, nodes-ran)
 
 -- ---- a run where no pair is left
@@ -268,8 +268,8 @@ module _ (object : List ℕ) where
     pub size : length object ≡ s .k * s .len
     pub live : LiveAreOwn object s nodes
 
-  abbrev pub OwnHeld : State Session → Type 0
-  OwnHeld held = Own (held .session) (held .nodes)
+  abbrev pub OwnState : State Session → Type 0
+  OwnState state = Own (state .session) (state .nodes)
 
   own-made : (s : Session) (nodes : List ℕ) (made : Step) → AcceptedStep s nodes made → Own s nodes
       → Own (sessionMade s made) (nodesWith s nodes made)
@@ -305,7 +305,7 @@ module _ (object : List ℕ) where
       go true e = let w = accepted-step s nodes made (eqb-true _ 0 e) in rw (session-stepped s nodes made w, nodes-stepped s nodes made w) (own-made s nodes made w o)
       go false e = rw e o
 
-  own-steps : (s : Session) (nodes : List ℕ) (steps : List Step) → Own s nodes → OwnHeld (stateAfter called s nodes (map asMove steps))
+  own-steps : (s : Session) (nodes : List ℕ) (steps : List Step) → Own s nodes → OwnState (stateAfter called s nodes (map asMove steps))
   unfolding stateAfter
   own-steps s nodes [] o = o
   own-steps s nodes (x ∷ steps) o = own-steps (called s nodes (asMove x) .session) (called s nodes (asMove x) .nodes) steps (own-step s nodes (x .node) (x .smaller) (x .larger) o)
@@ -315,10 +315,10 @@ module _ (object : List ℕ) where
   own-run s nodes o = go (eqb (firstMet (nodesChecks s (length nodes))) 0) refl
     where
       go : (b : Bool) → eqb (firstMet (nodesChecks s (length nodes))) 0 ≡ b → Own (ran s nodes .session) (nodesRan s nodes)
-      go true e = subst OwnHeld (run-steps s nodes (eqb-true _ 0 e) (o .marks)) (own-steps s nodes (planIn s) o)
+      go true e = subst OwnState (run-steps s nodes (eqb-true _ 0 e) (o .marks)) (own-steps s nodes (planIn s) o)
       go false e = rw e o
 
-  pub own-moves : (s : Session) (nodes : List ℕ) (moves : List Move) → Own s nodes → OwnHeld (stateAfter called s nodes moves)
+  pub own-moves : (s : Session) (nodes : List ℕ) (moves : List Move) → Own s nodes → OwnState (stateAfter called s nodes moves)
   unfolding stateAfter
   own-moves s nodes [] o = o
   own-moves s nodes (step j a b ∷ moves) o =

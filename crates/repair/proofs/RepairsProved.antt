@@ -22,7 +22,7 @@ use Rattle.repair.proofs.Accepted.{read-out-accepted, step-passed, plan
 use Rattle.repair.proofs.StartLaws.{nodes-0}
 use Rattle.repair.proofs.StepLaws.{accepted-step, step-accepted}
 use Rattle.repair.proofs.CallLaws.{ran-left}
-use Rattle.repair.proofs.OwnLaws.{stays-stepped, stays-ran, stepped-keeps, ran-keeps, run-known, session-ran, ran-sized, run-steps, run-keeps-left, run-keeps-live, quiet-answer, quiet-nodes, OwnHeld, own-moves, own-out}
+use Rattle.repair.proofs.OwnLaws.{stays-stepped, stays-ran, stepped-keeps, ran-keeps, run-known, session-ran, ran-sized, run-steps, run-keeps-left, run-keeps-live, quiet-answer, quiet-nodes, OwnState, own-moves, own-out}
 
 pub step-claim : StepClaim
 unfolding stepped
@@ -77,6 +77,6 @@ run-claim = run-claims
 
 pub own-claim : OwnClaim
 own-claim object s nodes marks size live moves =
-    let held = stateAfter called s nodes moves in
-    let o : OwnHeld object held = own-moves object s nodes moves (record { marks = marks; size = size; live = live }) in
-    record { live = o .live; out = λ result e. own-out object (held .session) (held .nodes) result o (read-out-accepted (held .session) (held .nodes) result e) }
+    let state = stateAfter called s nodes moves in
+    let o : OwnState object state = own-moves object s nodes moves (record { marks = marks; size = size; live = live }) in
+    record { live = o .live; out = λ result e. own-out object (state .session) (state .nodes) result o (read-out-accepted (state .session) (state .nodes) result e) }

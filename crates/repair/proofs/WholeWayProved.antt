@@ -297,28 +297,28 @@ out-after-run-claim family k L list h calls nodes e other result size room M som
 -- ---- the whole way
 
 -- session and buffer after calls
-held-fits : (s : Session) (nodes : List ℕ) (moves : List Move) → Fits s nodes → Fits (stateAfter called s nodes moves .session) (stateAfter called s nodes moves .nodes)
+state-fits : (s : Session) (nodes : List ℕ) (moves : List Move) → Fits s nodes → Fits (stateAfter called s nodes moves .session) (stateAfter called s nodes moves .nodes)
 unfolding stateAfter
-held-fits s nodes [] f = f
-held-fits s nodes (move ∷ moves) f = held-fits (called s nodes move .session) (called s nodes move .nodes) moves (fits-call s nodes f move)
+state-fits s nodes [] f = f
+state-fits s nodes (move ∷ moves) f = state-fits (called s nodes move .session) (called s nodes move .nodes) moves (fits-call s nodes f move)
 
 -- one more run
-held-more : (s : Session) (nodes : List ℕ) (moves : List Move)
+state-more : (s : Session) (nodes : List ℕ) (moves : List Move)
     → stateAfter called s nodes (moves ++ (run ∷ []))
     ≡ record { session = ran (stateAfter called s nodes moves .session) (stateAfter called s nodes moves .nodes) .session; nodes = nodesRan (stateAfter called s nodes moves .session) (stateAfter called s nodes moves .nodes) }
 unfolding stateAfter
-held-more s nodes [] = refl
-held-more s nodes (move ∷ moves) = held-more (called s nodes move .session) (called s nodes move .nodes) moves
+state-more s nodes [] = refl
+state-more s nodes (move ∷ moves) = state-more (called s nodes move .session) (called s nodes move .nodes) moves
 
 -- the calls on one buffer, each with the buffer as it gets it
 callsOn : Session → List ℕ → List Move → List Call
 callsOn s nodes [] = []
 callsOn s nodes (move ∷ moves) = record { nodes = nodes; move = move } ∷ callsOn (called s nodes move .session) (called s nodes move .nodes) moves
 
-held-calls : (s : Session) (nodes : List ℕ) (moves : List Move) → stateAfter called s nodes moves .session ≡ sessionAfterAll called s (callsOn s nodes moves)
+state-calls : (s : Session) (nodes : List ℕ) (moves : List Move) → stateAfter called s nodes moves .session ≡ sessionAfterAll called s (callsOn s nodes moves)
 unfolding stateAfter sessionAfterAll callsOn
-held-calls s nodes [] = refl
-held-calls s nodes (move ∷ moves) = held-calls (called s nodes move .session) (called s nodes move .nodes) moves
+state-calls s nodes [] = refl
+state-calls s nodes (move ∷ moves) = state-calls (called s nodes move .session) (called s nodes move .nodes) moves
 
 -- a box that is read, calls, and a run: the box's session is that of a start with its node numbers
 module _ (bytes nodes : List ℕ) (e : firstMet (readChecks bytes nodes) ≡ 0) where
@@ -337,33 +337,33 @@ module _ (bytes nodes : List ℕ) (e : firstMet (readChecks bytes nodes) ≡ 0) 
       session-read bytes nodes e ∙ ap (λ (r : Started). r .session) (sym (c .is) ∙ c .start)
 
   module _ (moves : List Move) where
-    abbrev held : State Session
-    held = stateAfter called (readBox bytes nodes .session) (nodesRead bytes nodes) moves
+    abbrev state : State Session
+    state = stateAfter called (readBox bytes nodes .session) (nodesRead bytes nodes) moves
 
     abbrev calls : List Call
     calls = callsOn (readBox bytes nodes .session) (nodesRead bytes nodes) moves
 
-    held-is : held .session ≡ lastSession (familyIn bytes) (kIn bytes) (blockLengthIn bytes) (namesIn bytes) calls
-    held-is = held-calls (readBox bytes nodes .session) (nodesRead bytes nodes) moves ∙ ap (λ (s : Session). sessionAfterAll called s calls) session-from
+    state-is : state .session ≡ lastSession (familyIn bytes) (kIn bytes) (blockLengthIn bytes) (namesIn bytes) calls
+    state-is = state-calls (readBox bytes nodes .session) (nodesRead bytes nodes) moves ∙ ap (λ (s : Session). sessionAfterAll called s calls) session-from
 
-    fits : Fits (held .session) (held .nodes)
-    fits = held-fits (readBox bytes nodes .session) (nodesRead bytes nodes) moves (read-fits bytes nodes e)
+    fits : Fits (state .session) (state .nodes)
+    fits = state-fits (readBox bytes nodes .session) (nodesRead bytes nodes) moves (read-fits bytes nodes e)
 
-    pub read-runs : ran (held .session) (held .nodes) .refusal ≡ 0
-    read-runs = fits-claim .run (held .session) (held .nodes) fits
+    pub read-runs : ran (state .session) (state .nodes) .refusal ≡ 0
+    read-runs = fits-claim .run (state .session) (state .nodes) fits
 
     -- what the run leaves has the box's n × L bytes
-    ran-size : length (nodesRan (held .session) (held .nodes)) ≡ nodeCountIn bytes * blockLengthIn bytes
+    ran-size : length (nodesRan (state .session) (state .nodes)) ≡ nodeCountIn bytes * blockLengthIn bytes
     ran-size =
-        let is = ran-is (familyIn bytes) (kIn bytes) (blockLengthIn bytes) (namesIn bytes) starts calls (held .nodes) (rw held-is at read-runs) in
-        fits-call (held .session) (held .nodes) fits run .size
-        ∙ ap (λ (s : Session). nodeCountOf s * s .len) (ap (λ (s : Session). ran s (held .nodes) .session) held-is ∙ is)
+        let is = ran-is (familyIn bytes) (kIn bytes) (blockLengthIn bytes) (namesIn bytes) starts calls (state .nodes) (rw state-is at read-runs) in
+        fits-call (state .session) (state .nodes) fits run .size
+        ∙ ap (λ (s : Session). nodeCountOf s * s .len) (ap (λ (s : Session). ran s (state .nodes) .session) state-is ∙ is)
 
     pub read-back : (result : List ℕ) → length result ≡ kIn bytes * blockLengthIn bytes → (M : ℕ) → 1 ≤ M
-        → OutWhereOpen (ran (held .session) (held .nodes) .session) (nodesRan (held .session) (held .nodes)) result (namesIn bytes) M
+        → OutWhereOpen (ran (state .session) (state .nodes) .session) (nodesRan (state .session) (state .nodes)) result (namesIn bytes) M
     read-back result size M some =
-        let out = out-after-run-claim (familyIn bytes) (kIn bytes) (blockLengthIn bytes) (namesIn bytes) starts calls (held .nodes) (rw held-is at read-runs) (nodesRan (held .session) (held .nodes)) result ran-size size M some in
-        rw (sym held-is) at out
+        let out = out-after-run-claim (familyIn bytes) (kIn bytes) (blockLengthIn bytes) (namesIn bytes) starts calls (state .nodes) (rw state-is at read-runs) (nodesRan (state .session) (state .nodes)) result ran-size size M some in
+        rw (sym state-is) at out
 
 module _ (way : Way) (on : OnTheWay way) (moves : List Move) where
   abbrev box : List ℕ
@@ -422,5 +422,5 @@ whole-way-claim way on moves =
       runs = read-runs (boxAway way) (way .other) (read-accepted (boxAway way) (way .other) (on .read)) moves;
       back = back way on moves;
       again = subst (λ (h : State Session). (result : List ℕ) → readOut (h .session) (h .nodes) result .refusal ≡ 0 → objectOut (h .session) (h .nodes) result ≡ way .object)
-          (held-more (readBox (boxAway way) (way .other) .session) (nodesRead (boxAway way) (way .other)) moves) (own way on (moves ++ (run ∷ [])) .out);
+          (state-more (readBox (boxAway way) (way .other) .session) (nodesRead (boxAway way) (way .other)) moves) (own way on (moves ++ (run ∷ [])) .out);
     }

@@ -9,7 +9,7 @@ use Rattle.checks.specs.Parameters.{mostL}
 use Rattle.boxes.specs.Box.{blockLengthIn, nodeCountIn}
 use Rattle.listing.proofs.ListingLaws.{Accepted, accepted-input, turned, answered}
 use Rattle.refilling.specs.Refilled.{refilledOf}
-use Rattle.refilling.proofs.Laws.{box, nodes-most, zeros-size, held-is, refilled-long, refilled-is}
+use Rattle.refilling.proofs.Laws.{box, nodes-most, zeros-size, read-given, refilled-long, refilled-is}
 use borrow.Author.Needs.{needs}
 use Rattle.refilling.proofs.refill.Statement.{statement}
 use Rattle.refilling.proofs.refill.Tie as tie
@@ -83,7 +83,7 @@ returns-3 c =
     let p = c .before .put-refilled .ensures in
     let input = c .before .before .before .before .before .before .before .before .before .before .before .before .args .input .now in
     let e = refilled-is input (accepted (c .before .before .before .before .before .before .before .before)) (omega (arith, count d, size d, c .before .before .before .before .before .if2 .left)) in
-    let h = held-is input (all .result) 65536 _ (all .ensures) (room (c .before .before .before .before .before)) (size d) in
+    let h = read-given input (all .result) 65536 _ (all .ensures) (room (c .before .before .before .before .before)) (size d) in
     rw (e, ← h) ((p .0, omega (arith, p .1 .0, long (c .before .before .before .before .before .before .before .before))), p .1 .1 ∙ rw (kept (c .before .before .before .before .before .before .before .before)))
 
 pub refill-spec : {M : Type 1} → statement M
