@@ -45,7 +45,7 @@
  * The version of this header, raised when a layout or an answer changes. Where the library's is another, what it takes and gives
  * may be other than what is said here.
  */
-#define MOGTRIZ_VERSION 1
+#define MOGTRIZ_VERSION 2
 
 /* The families, with the range of k and n. */
 #define MOGTRIZ_SIMPLEX 1 /* n is 2^k - 1 */
@@ -59,7 +59,7 @@
 #define MOGTRIZ_TETRAHEDRON_MOST_K 4
 
 /* The most that len, and over all families k and n, can be; the least len is 1. */
-#define MOGTRIZ_MOST_LEN 4096
+#define MOGTRIZ_MOST_LEN 1536
 #define MOGTRIZ_MOST_K MOGTRIZ_WEIGHT_TWO_MOST_K
 #define MOGTRIZ_MOST_NODES 255
 

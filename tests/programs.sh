@@ -35,11 +35,17 @@ uneven() {
 
 # ---- the cases of the file
 
-(cat largest.box; head -c 1 /dev/zero) >made-65536
-(cat largest.box; head -c 2 /dev/zero) >made-65537
-head -c 65536 /dev/zero >made-zeros-65536
-head -c 65537 /dev/zero >made-zeros-65537
-head -c 200000 /dev/zero | tr '\0' '\1' >made-ones-200000
+# bytes BYTE COUNT: so many of one byte, given as tr takes it
+bytes() { head -c "$2" /dev/zero | tr '\0' "$1"; }
+
+(cat largest.box; bytes '\0' 1) >made-65536
+(cat largest.box; bytes '\0' 2) >made-65537
+bytes '\0' 65536 >made-zeros-65536
+bytes '\0' 65537 >made-zeros-65537
+bytes '\1' 200000 >made-ones-200000
+(printf '\1\2\0\6\2\0\0\0\1\2'; bytes '\21' 1536; bytes '\42' 1536) >made-longest
+(printf '\1\2\0\6\3\0\0\0\1\2\3'; bytes '\21' 1536; bytes '\42' 1536; bytes '\63' 1536) >made-longest-refilled
+(printf '\1\2\1\6\2\0\0\0\1\2'; bytes '\21' 1537; bytes '\42' 1537) >made-above
 
 # holds PROGRAM INPUT OUTPUT HOW NAME: a line of the file for one of the programs
 holds() {

@@ -6,7 +6,7 @@ use std::sync::LazyLock;
 pub const FAMILIES: [usize; 3] = [1, 2, 3];
 
 /// The largest L.
-pub const MOST_LENGTH: usize = 4096;
+pub const MOST_LENGTH: usize = 1536;
 
 /// Matrix (7) of source document 002.
 pub const MATRIX_7: [[u8; 14]; 4] = [

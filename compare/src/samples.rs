@@ -62,7 +62,8 @@ pub fn shapes() -> Vec<Shape> {
         }
     }
     for (family, k) in few {
-        shapes.extend([255, 256, 257, MOST_LENGTH].map(|len| Shape { family, k, len }));
+        let lens = [255, 256, 257, MOST_LENGTH - 1, MOST_LENGTH];
+        shapes.extend(lens.map(|len| Shape { family, k, len }));
     }
     shapes
 }
@@ -172,10 +173,11 @@ pub fn wrong_number(right: usize, random: &mut Random) -> usize {
     *random.of(&numbers)
 }
 
-/// An L that is out of range, or another in it.
+/// An L that is out of range, the one that was the largest before among them, or another in it.
 pub fn wrong_len(right: usize, random: &mut Random) -> usize {
     let other = wrong_number(right, random);
-    *random.of(&[0, MOST_LENGTH, MOST_LENGTH + 1, 65_536, other])
+    let most = MOST_LENGTH;
+    *random.of(&[0, most, most + 1, 4096, 65_535, 65_536, other])
 }
 
 /// A session of any content, near to one that a start gives or far from it.

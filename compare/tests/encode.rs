@@ -6,8 +6,8 @@ use compare::random::Random;
 
 const MOST: usize = MOST_LENGTH;
 
-// the small ones, those around the sizes of a chunk, and the largest
-const LENGTHS: [usize; 11] = [1, 2, 63, 64, 65, 127, 128, 129, 1536, MOST - 1, MOST];
+// the small ones, those around the sizes of a chunk, one between, and the largest
+const LENGTHS: [usize; 11] = [1, 2, 63, 64, 65, 127, 128, 129, 512, MOST - 1, MOST];
 
 /// Encodes an object between guards and compares every node with the matrix.
 fn compare_with_matrix(code: &Code, len: usize, object: &[u8]) {

@@ -33,11 +33,8 @@ impl Shape {
 
     fn lens(self) -> Vec<usize> {
         const LARGE: usize = (1 << 32) + 1;
-        const ABOVE: usize = MOST_LENGTH + 1;
-        with_uncut(
-            self.len,
-            &[self.len, 0, ABOVE, 65536, 65537, LARGE, usize::MAX],
-        )
+        let others = [0, 65537, LARGE, usize::MAX];
+        with_uncut(self.len, &[&[self.len], &others[..], &LONG].concat())
     }
 
     fn object_len(self) -> usize {
@@ -56,6 +53,9 @@ fn with_uncut(right: usize, numbers: &[usize]) -> Vec<usize> {
     [numbers, &uncut].concat()
 }
 
+const MOST: usize = MOST_LENGTH;
+const LONG: [usize; 6] = [MOST - 1, MOST, MOST + 1, 4096, 65535, 65536];
+
 /// Every k of a family and one to each side, at two short L, and the least k at the long ones.
 fn shapes() -> Vec<Shape> {
     let mut shapes = Vec::new();
@@ -65,7 +65,7 @@ fn shapes() -> Vec<Shape> {
             shapes.extend([1, 64].map(|len| Shape { family, k, len }));
         }
         let k = *range.start();
-        shapes.extend([MOST_LENGTH, MOST_LENGTH + 1, 65536].map(|len| Shape { family, k, len }));
+        shapes.extend(LONG.map(|len| Shape { family, k, len }));
     }
     shapes
 }

@@ -18,10 +18,10 @@ fn answer(family: u8, k: u8, len: u16) -> u8 {
 }
 
 #[test]
-fn length_4096_is_accepted_and_4097_gives_3() {
+fn length_1536_is_accepted_and_1537_gives_3() {
     for (family, k) in [(1, 2), (1, 8), (2, 2), (2, 22), (3, 4)] {
-        assert_eq!(answer(family, k, 4096), 0, "family {family} k {k}");
-        assert_eq!(answer(family, k, 4097), 3, "family {family} k {k}");
+        assert_eq!(answer(family, k, 1536), 0, "family {family} k {k}");
+        assert_eq!(answer(family, k, 1537), 3, "family {family} k {k}");
     }
 }
 

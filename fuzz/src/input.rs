@@ -1,5 +1,5 @@
 //! Numbers, lists and lengths out of the fuzzer's bytes. Where the bytes end all are 0.
-use compare::papers::node_count;
+use compare::papers::{MOST_LENGTH, node_count};
 use mogtriz::raw::Session;
 
 pub struct Input<'a>(pub &'a [u8]);
@@ -23,9 +23,10 @@ impl<'a> Input<'a> {
         part
     }
 
-    /// A small number for the most part, else one that is near 0 once cut to 8, 16 or 32 bits, or any.
+    /// A small number for the most part, else one near the largest L, one that is near 0 once cut to 8, 16 or 32 bits, or any.
     pub fn number(&mut self) -> usize {
         match self.byte() {
+            249 => MOST_LENGTH - 128 + usize::from(self.byte()),
             250 => (1 << 8) + usize::from(self.byte()),
             251 => (1 << 16) + usize::from(self.byte()),
             252 => (1 << 32) + usize::from(self.byte()),

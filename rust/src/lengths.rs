@@ -11,7 +11,7 @@ const HEAD: usize = 8;
 /// assert_eq!(object_len(SIMPLEX, 3, MOST_LEN), Ok(3 * MOST_LEN));
 /// assert_eq!(object_len(SIMPLEX, 3, MOST_LEN + 1), Err(Refusal::LenOutOfRange));
 /// ```
-pub const MOST_LEN: usize = 4096;
+pub const MOST_LEN: usize = 1536;
 
 /// The largest k of any family, that of weight-two.
 pub const MOST_K: usize = 22;

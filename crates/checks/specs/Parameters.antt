@@ -7,7 +7,7 @@ use Rattle.checks.specs.Checks.{Check, _gives_}
 
 -- the largest L
 abbrev pub mostL : ℕ
-mostL = 4096
+mostL = 1536
 
 -- 1 family unknown, 2 k outside its family's range, 3 L is 0 or above the largest
 unfoldable pub parameterChecks : ℕ → ℕ → ℕ → List Check

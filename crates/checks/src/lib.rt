@@ -4,7 +4,7 @@ ghost use Rattle.checks.specs.Checks.{firstMet};
 ghost use Rattle.checks.specs.Parameters.{parameterChecks};
 
 // The largest L, the length of a block in bytes.
-pub const MOST_LENGTH: usize = 4096;
+pub const MOST_LENGTH: usize = 1536;
 
 // 1, 2 or 3 where the family, k or L is out of range, in this order; else 0.
 pub fn parameter_refusal(family: usize, k: usize, len: usize) -> u8

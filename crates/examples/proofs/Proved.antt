@@ -165,7 +165,7 @@ computed =
     & refl
     & (refl, refl)
     & (refl, refl)
-    & refl & refl & refl & refl & refl & refl & refl & refl
+    & refl & refl & refl & refl & refl & refl & refl & refl & refl & refl
     & refl & refl & refl & refl & refl
     & refl & refl & refl
     & tt

@@ -141,7 +141,9 @@ table =
     -- Weight-two 4 and the tetrahedron with an object whose data block i is 2^(i − 1): each node holds its column
     ∷ Encodes 2 4 1 (1 ∷ 2 ∷ 4 ∷ 8 ∷ []) (1 ∷ 2 ∷ 4 ∷ 8 ∷ 3 ∷ 5 ∷ 9 ∷ 6 ∷ 10 ∷ 12 ∷ [])
     ∷ Encodes 3 4 1 (1 ∷ 2 ∷ 4 ∷ 8 ∷ []) (1 ∷ 2 ∷ 4 ∷ 8 ∷ 5 ∷ 3 ∷ 6 ∷ 7 ∷ 10 ∷ 12 ∷ 14 ∷ 9 ∷ 11 ∷ 13 ∷ [])
-    -- Simplex k 8 accepted, 9 gives 2; weight-two k 22 accepted, 23 gives 2; the list 3, 3 gives 5
+    -- L 1,536 accepted, 1,537 gives 3; simplex k 8 accepted, 9 gives 2; weight-two k 22 accepted, 23 gives 2; the list 3, 3 gives 5
+    ∷ Starts 1 3 1536 [] 0
+    ∷ Starts 1 3 1537 [] 3
     ∷ Starts 1 8 1 [] 0
     ∷ Starts 1 9 1 [] 2
     ∷ Starts 2 22 1 [] 0
