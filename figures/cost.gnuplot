@@ -72,8 +72,8 @@ set title "{/:Bold=15 Simplex 8 and weight-two 22}" offset 0, -0.4
 set lmargin at screen 0.575
 set rmargin at screen 0.985
 set xlabel "L, bytes of a block" offset 0, 0.4
-set xrange [54:4850]
-set xtics (64, 128, 256, 512, "1,024" 1024, "2,048" 2048, "4,096" 4096)
+set xrange [54:1820]
+set xtics (64, 128, 256, 512, "1,024" 1024, "1,536" 1536)
 plot for [o = 1:3] for [f = 1:2] costs \
     using (strcol("family") eq word(families, f) && is_largest(strcol("family"), column("k")) ? column("L") : NaN):word(operations, o) \
     smooth unique with linespoints ls 2 * o + f - 2, \

@@ -63,15 +63,13 @@ fn run(case: Case, random: &mut Random, meter: &mut Meter) -> Line {
 }
 
 pub fn table(random: &mut Random, meter: &mut Meter) -> Table {
-    let simplex_goals = [Some(1.1), Some(1.0), Some(1.6)];
-    let weight_two_goals = [Some(1.1), None, None];
     let cases = [
         simplex(64, RECORDED),
-        simplex(1536, simplex_goals),
-        simplex(4096, simplex_goals),
+        simplex(512, [Some(1.2), Some(1.4), Some(1.6)]),
+        simplex(1536, [Some(1.1), Some(1.0), Some(1.6)]),
         weight_two(64, RECORDED),
-        weight_two(1536, weight_two_goals),
-        weight_two(4096, weight_two_goals),
+        weight_two(512, [Some(1.3), None, None]),
+        weight_two(1536, [Some(1.1), None, None]),
     ];
     Table {
         title: "encode",

@@ -135,8 +135,11 @@ fn run(len: usize, goals: [Option<f64>; 3], random: &mut Random, meter: &mut Met
 }
 
 pub fn runs(random: &mut Random, meter: &mut Meter) -> Table {
-    let goals = [Some(1.3), Some(1.5), None];
-    let cases = [(64, [None; 3]), (1536, goals), (4096, goals)];
+    let cases = [
+        (64, [None; 3]),
+        (512, [Some(1.9), Some(1.9), None]),
+        (1536, [Some(1.3), Some(1.5), None]),
+    ];
     Table {
         title: "run",
         ways: &["Mogtriz", "Rust", "ISA-L", "Rust plan"],

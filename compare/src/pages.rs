@@ -4,8 +4,8 @@ use std::ffi::{c_int, c_void};
 use std::ptr;
 use std::slice;
 
-/// The bytes of a stretch between two shut pages: as much as the largest buffers take, which are of 255 blocks of
-/// the largest L and some more.
+/// The bytes of a stretch between two shut pages: as much as the largest buffers take, which are of 15 blocks of
+/// 65,535 bytes, an L out of range, and some more.
 pub const ROOM: usize = 1 << 21;
 
 const PAGE: usize = 4096;

@@ -1,4 +1,4 @@
-//! The examples of the papers that have no letter, as they are printed there.
+//! The examples of document 01 that have no letter, as they are printed there; those of L as document 02, K2, has them.
 use compare::library;
 use mogtriz::raw::{self, MARKS};
 

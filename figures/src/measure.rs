@@ -14,7 +14,7 @@ const READINGS: usize = 10;
 const CALLS: u32 = 8;
 /// The L at which n grows.
 const LEN: usize = 1536;
-const LENGTHS: [usize; 8] = [64, 128, 256, 512, 1024, LEN, 2048, 4096];
+const LENGTHS: [usize; 6] = [64, 128, 256, 512, 1024, LEN];
 
 /// A family with its largest k, at which L grows.
 #[derive(Clone, Copy)]

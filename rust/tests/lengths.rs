@@ -116,6 +116,7 @@ fn a_session_of_no_start_has_no_lengths() {
     let strange = [
         Session::from_parts(0, 3, 1, none),
         Session::from_parts(SIMPLEX, 9, 1, none),
+        Session::from_parts(SIMPLEX, 3, MOST_LEN + 1, none),
         Session::from_parts(SIMPLEX, 3, usize::MAX, none),
         with_mark(0, 1),
         with_mark(8, 1),

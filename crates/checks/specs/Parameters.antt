@@ -5,7 +5,7 @@ use Rattle.base.specs.Ranges.{outside}
 use Rattle.families.specs.Families.{familyOf, leastK, mostK}
 use Rattle.checks.specs.Checks.{Check, _gives_}
 
--- the largest L
+-- the largest L (document 02, K2)
 abbrev pub mostL : ℕ
 mostL = 1536
 
