@@ -1,11 +1,12 @@
 -- What the checks of a box and of a body give, check by check.
 -- Assumes nothing.
 use mathlib.Core.Path.{_≡_, refl, sym, _∙_}
-use mathlib.Core.Bool.{true, false}
+use mathlib.Core.Bool.{Bool, not, cond}
 use mathlib.Core.List.{List, []}
 use Prim.Native.Nat.{ℕ, _+_, _≤_, _<_}
 use native.Mathlib.Omega.{arith}
-use borrow.Author.Tests.{lt-ltb, le-ltb, eq-eqb, ne-eqb, ltb-true, not-false}
+use borrow.Author.Tests.{lt-ltb, le-ltb, ltb-true, not-false}
+use lib.Dec.{eqb, ltb}
 use lib.ListN.{length, take, drop, length-drop}
 use lib.Seq.{length-take-le}
 use Rattle.checks.specs.Checks.{Check, firstMet}
@@ -15,7 +16,7 @@ use Rattle.base.proofs.RangeLaws.{outside-low, outside-high, outside-no}
 use Rattle.checks.proofs.Laws.{accepted, parameters-none, none-zero, none-left, none-right, none-append, some-append}
 use Rattle.checks.proofs.AnswerLaws.{after-served, after-refused}
 use Rattle.lists.specs.Lists.{listChecks, placeIn}
-use Rattle.boxes.specs.Box.{familyIn, kIn, blockLengthIn, heldCountIn, zerosIn, namesIn, nodeCountIn, boxLength, boxChecks, bodyChecks, bodyStart, bodyOf}
+use Rattle.boxes.specs.Box.{familyIn, kIn, blockLengthIn, heldCountIn, zerosIn, namesIn, nodeCountIn, boxLength, pageChecks, boxChecks, bodyChecks, bodyStart, bodyOf}
 
 -- ---- a box
 
@@ -40,33 +41,17 @@ module _ (bytes : List ℕ) where
     unfolding boxChecks firstMet
     by-parameters n = rw (le-ltb (length bytes) 8 long) (some-append (parametersOf bytes) _ n)
 
-    module _ (e : firstMet (parametersOf bytes) ≡ 0) where
-      passed : NoneMet (parametersOf bytes)
-      passed = parameters-none (familyIn bytes) (kIn bytes) (blockLengthIn bytes) e
+    pub by-page : firstMet (parametersOf bytes) ≡ 0 → firstMet (boxChecks bytes) ≡ firstMet (pageChecks bytes)
+    unfolding boxChecks firstMet
+    by-page e = rw (le-ltb (length bytes) 8 long) (none-append (parametersOf bytes) _ (parameters-none (familyIn bytes) (kIn bytes) (blockLengthIn bytes) e))
 
-      pub by-zeros : zerosIn bytes ≡ false → firstMet (boxChecks bytes) ≡ 8
-      unfolding boxChecks firstMet
-      by-zeros z = rw (le-ltb (length bytes) 8 long) (none-append (parametersOf bytes) _ passed ∙ rw z)
-
-      pub by-length : zerosIn bytes ≡ true → (length bytes ≡ boxLength (heldCountIn bytes) (blockLengthIn bytes) → ⊥) → firstMet (boxChecks bytes) ≡ 7
-      unfolding boxChecks firstMet
-      by-length z n =
-          rw (le-ltb (length bytes) 8 long)
-          (none-append (parametersOf bytes) _ passed ∙ rw (z, ne-eqb (length bytes) (boxLength (heldCountIn bytes) (blockLengthIn bytes)) n))
-
-      module _ (z : zerosIn bytes ≡ true) (s : length bytes ≡ boxLength (heldCountIn bytes) (blockLengthIn bytes)) where
-        pub by-held : nodeCountIn bytes < heldCountIn bytes → firstMet (boxChecks bytes) ≡ 9
-        unfolding boxChecks firstMet
-        by-held h =
-            rw (le-ltb (length bytes) 8 long)
-            (none-append (parametersOf bytes) _ passed ∙ rw (z, eq-eqb (length bytes) (boxLength (heldCountIn bytes) (blockLengthIn bytes)) s, lt-ltb (nodeCountIn bytes) (heldCountIn bytes) h))
-
-        -- the last two are those of the node numbers
-        pub by-list : heldCountIn bytes ≤ nodeCountIn bytes → firstMet (boxChecks bytes) ≡ firstMet (listChecks (nodeCountIn bytes) (namesIn bytes))
-        unfolding boxChecks firstMet
-        by-list h =
-            rw (le-ltb (length bytes) 8 long)
-            (none-append (parametersOf bytes) _ passed ∙ rw (z, eq-eqb (length bytes) (boxLength (heldCountIn bytes) (blockLengthIn bytes)) s, le-ltb (nodeCountIn bytes) (heldCountIn bytes) h))
+  -- the page's checks by its three tests; the last two checks are those of the node numbers
+  pub by-tests : {zero right many : Bool} → zerosIn bytes ≡ zero
+      → eqb (length bytes) (boxLength (heldCountIn bytes) (blockLengthIn bytes)) ≡ right
+      → ltb (nodeCountIn bytes) (heldCountIn bytes) ≡ many
+      → firstMet (pageChecks bytes) ≡ cond (not zero) 8 (cond (not right) 7 (cond many 9 (firstMet (listChecks (nodeCountIn bytes) (namesIn bytes)))))
+  unfolding firstMet
+  by-tests z s h = rw (z, s, h)
 
 -- ---- a body
 

@@ -6,7 +6,7 @@ use mathlib.Core.List.{List, [], _∷_, _++_, flatMap}
 use Prim.Native.Nat.{ℕ, zero, suc, _+_, _*_, _/_, _%_, _≤_, _<_}
 use native.Mathlib.Nat.{zero-mul, suc-mul, mul-le-mul-right, lt-trans}
 use native.Mathlib.Omega.{arith}
-use borrow.Author.Tests.{ltb-true, ltb-false, eqb-true, not-false}
+use borrow.Author.Tests.{le-ltb, eq-eqb, ltb-true, ltb-false, eqb-true, not-false}
 use lib.Dec.{eqb, ltb}
 use lib.ListN.{length, getD, take, drop, length-append, length-drop, take-append-drop}
 use lib.Seq.{take-at, take-append-seam, drop-append-seam, drop-append-add, drop-cons, drop-drop, length-take-le}
@@ -29,7 +29,7 @@ use Rattle.boxes.specs.Box.{familyIn, kIn, blockLengthIn, heldCountIn, z
 use Rattle.boxes.specs.Bodies.{boxOf, withBodies}
 use Rattle.boxes.specs.Inner.{ListIn}
 use Rattle.boxes.specs.Claims.{AcceptedBox}
-use Rattle.boxes.proofs.Answers.{parametersOf, box-none, length-names, by-list, accepted-body}
+use Rattle.boxes.proofs.Answers.{parametersOf, box-none, length-names, by-page, by-tests, accepted-body}
 
 -- ---- lists of nodes
 
@@ -222,7 +222,8 @@ box-accepted family k L list nodes r o i f e =
     let d = fields-of family k L list nodes in
     let s = length-boxOf family k L list nodes (list-in L n nodes list e o) in
     let p : firstMet (parametersOf b) ≡ 0 = rw (d .family-is, d .k-is, d .length-is) (parameters-in family k L r) in
-    by-list b (omega (arith, s)) p (d .zeros-is) (s ∙ sym (ap₂ boxLength (d .held-is) (d .length-is))) (rw (d .held-is, d .family-is, d .k-is) f)
+    by-page b (omega (arith, s)) p
+    ∙ by-tests b (d .zeros-is) (eq-eqb _ _ (s ∙ sym (ap₂ boxLength (d .held-is) (d .length-is)))) (le-ltb (nodeCountIn b) (heldCountIn b) (rw (d .held-is, d .family-is, d .k-is) f))
     ∙ rw (d .family-is, d .k-is, d .names-is)
     (none-zero (listChecks n list) (o, (ap not i, tt)))
 

@@ -5,7 +5,7 @@ use mathlib.Core.Bool.{true, not}
 use mathlib.Core.List.{List, [], _∷_}
 use Prim.Native.Nat.{ℕ, zero, suc, _+_, _*_, _≤_, _<_}
 use native.Mathlib.Omega.{arith}
-use borrow.Author.Tests.{eq-eqb, ne-eqb}
+use borrow.Author.Tests.{le-ltb, eq-eqb, ne-eqb}
 use lib.ListN.{length, getD}
 use lib.Seq.{drop-drop}
 use borrow.Rule.Slice.PartMut.{midOf}
@@ -18,7 +18,7 @@ use Rattle.lists.specs.Lists.{rises, listChecks, placeIn}
 use Rattle.boxes.specs.Box.{familyIn, kIn, blockLengthIn, heldCountIn, namesIn, bodiesIn, nodeCountIn, boxChecks, bodyChecks, bodyPlace, bodyOf}
 use Rattle.boxes.specs.Bodies.{boxOf, withBodies}
 use Rattle.boxes.specs.Claims.{AcceptedBox, BoxClaim, BodyClaims, BodyClaim, BoxOfBodyClaim}
-use Rattle.boxes.proofs.Answers.{by-list, by-none, body-part}
+use Rattle.boxes.proofs.Answers.{by-page, by-tests, by-none, body-part}
 use Rattle.boxes.proofs.Laws.{accepted-box, node-inside, list-in, in-kept, rises-rest, rises-above, body-fits, body-at, bodies-there, bodies-same, length-withBodies, fields-of}
 
 -- ---- a box
@@ -28,7 +28,8 @@ box-claim bytes = (accepted-box bytes, back)
   where
     back : AcceptedBox bytes → firstMet (boxChecks bytes) ≡ 0
     back a =
-        by-list bytes (omega (arith, a .size)) (parameters-in _ _ _ (a .range)) (a .zeros) (a .size) (a .few-held)
+        by-page bytes (omega (arith, a .size)) (parameters-in _ _ _ (a .range))
+        ∙ by-tests bytes (a .zeros) (eq-eqb _ _ (a .size)) (le-ltb _ _ (a .few-held))
         ∙ none-zero (listChecks (nodeCountIn bytes) (namesIn bytes)) (a .nodes, (ap not (a .rising), tt))
 
 -- ---- the body of a node

@@ -43,15 +43,17 @@ boxLength E L = 8 + E + E * L
 abbrev pub nodeCountIn : List ℕ → ℕ
 nodeCountIn bytes = nodeCount (familyOf (familyIn bytes)) (kIn bytes)
 
--- under 8 bytes 7, then 1, 2, 3, 8, full length 7, 9, 4, 5
-unfoldable pub boxChecks : List ℕ → List Check
-boxChecks bytes =
-    (ltb (length bytes) 8 gives 7)
-    ∷ (parameterChecks (familyIn bytes) (kIn bytes) (blockLengthIn bytes)
-    ++ ((not (zerosIn bytes) gives 8)
+-- of the page of contents 8, full length 7, 9, 4, 5
+abbrev pub pageChecks : List ℕ → List Check
+pageChecks bytes =
+    (not (zerosIn bytes) gives 8)
     ∷ (not (eqb (length bytes) (boxLength (heldCountIn bytes) (blockLengthIn bytes))) gives 7)
     ∷ (ltb (nodeCountIn bytes) (heldCountIn bytes) gives 9)
-    ∷ listChecks (nodeCountIn bytes) (namesIn bytes)))
+    ∷ listChecks (nodeCountIn bytes) (namesIn bytes)
+
+-- under 8 bytes 7, then 1, 2, 3, then those of the page
+unfoldable pub boxChecks : List ℕ → List Check
+boxChecks bytes = (ltb (length bytes) 8 gives 7) ∷ (parameterChecks (familyIn bytes) (kIn bytes) (blockLengthIn bytes) ++ pageChecks bytes)
 
 -- for a body: the box's checks, then 4 and 12
 unfoldable pub bodyChecks : List ℕ → ℕ → List Check

@@ -34,6 +34,12 @@ pub record AcceptedBox (bytes : List ℕ) : Type 0 where
 abbrev pub BoxClaim : Type 0
 BoxClaim = (bytes : List ℕ) → (firstMet (boxChecks bytes) ≡ 0) ↔ AcceptedBox bytes
 
+-- the first 8 bytes are there, and sound but for E: the box passes 1, 2, 3 and 8
+pub record SoundHead (bytes : List ℕ) : Type 0 where
+  pub long : 8 ≤ length bytes
+  pub range : InRange (familyIn bytes) (kIn bytes) (blockLengthIn bytes)
+  pub zeros : zerosIn bytes ≡ true
+
 -- node j is named: it stands at a place among the node numbers
 pub record Named (bytes : List ℕ) (j : ℕ) : Type 0 where
   pub place : ℕ

@@ -6,10 +6,9 @@ ghost use Prim.Native.Nat.{_+_, _*_, _/_, _%_, _≤_, _<_};
 ghost use lib.ListN.{length, drop};
 ghost use Rattle.families.specs.Families.{KInRange, familyOf};
 ghost use Rattle.checks.specs.Checks.{firstMet};
-ghost use Rattle.checks.specs.Parameters.{parameterChecks};
 ghost use Rattle.blocks.specs.Blocks.{blockOf};
 ghost use Rattle.lists.specs.Lists.{placeIn};
-ghost use Rattle.boxes.specs.Box.{familyIn, kIn, blockLengthIn, heldCountIn, zerosIn, namesIn, bodiesIn, nodeCountIn, boxLength, boxChecks, bodyChecks, bodyPlace, bodyStart, bodyOf};
+ghost use Rattle.boxes.specs.Box.{familyIn, kIn, blockLengthIn, heldCountIn, zerosIn, namesIn, bodiesIn, nodeCountIn, boxLength, pageChecks, boxChecks, bodyChecks, bodyPlace, bodyStart, bodyOf};
 ghost use Rattle.boxes.specs.Bodies.{boxOf, withBodies};
 ghost use Rattle.boxes.specs.Inner.{ListIn, Stretch};
 
@@ -87,22 +86,24 @@ fn zeros(bytes: &[u8]) -> bool
     bytes[7] == 0
 }
 
-// The first check that is met, or 0, of a box of 8 bytes or more whose family, k and L are in range.
-fn rest_refusal(bytes: &[u8]) -> u8
+// The first check of the page of contents that is met, or 0, of a box of 8 bytes or more whose family and k are in range.
+fn page_refusal(bytes: &[u8]) -> u8
     requires { ⌜ 8 ≤ length (now bytes) ⌝ }
-    requires { ⌜ firstMet (parameterChecks (familyIn (now bytes)) (kIn (now bytes)) (blockLengthIn (now bytes))) ≡ 0 ⌝ }
-    ensures { λ r. ⌜ r ≡ firstMet (boxChecks (now (bytes .entry))) ⌝ }
+    requires { ⌜ KInRange (familyOf (familyIn (now bytes))) (kIn (now bytes)) ⌝ }
+    ensures { λ r. ⌜ r ≡ firstMet (pageChecks (now (bytes .entry))) ⌝ }
 {
-    if !zeros(bytes) {
-        return 8;
-    }
+    let zero = zeros(bytes);
     let count = held_count(bytes);
     let len = block_length(bytes);
+    let n = node_count(bytes);
+    let full = 8 + count + count * len;
+    if !zero {
+        return 8;
+    }
     // the numbers and bodies are looked at only once the length is as E says
-    if bytes.len() != 8 + count + count * len {
+    if bytes.len() != full {
         return 7;
     }
-    let n = node_count(bytes);
     if n < count {
         return 9;
     }
@@ -120,7 +121,7 @@ pub fn box_refusal(bytes: &[u8]) -> u8
     if bad != 0 {
         return bad;
     }
-    rest_refusal(bytes)
+    page_refusal(bytes)
 }
 
 // The first check of the body of node j that is met, or 0.

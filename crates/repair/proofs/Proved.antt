@@ -3,26 +3,27 @@
 use mathlib.Core.Path.{_≡_, refl, sym, ap, _∙_}
 use mathlib.Core.Bool.{Bool, false}
 use mathlib.Core.List.{List, [], _∷_}
-use Prim.Native.Nat.{ℕ, _<_}
+use Prim.Native.Nat.{ℕ, suc, _<_}
 use native.Mathlib.Omega.{arith}
-use borrow.Author.Tests.{lt-ltb, ltb-true}
+use borrow.Author.Tests.{lt-ltb, ne-eqb, ltb-true}
 use lib.Dec.{ltb}
 use lib.ListN.{length}
 use Rattle.families.specs.Families.{familyOf, nodeCount}
 use Rattle.families.proofs.Laws.{few}
 use Rattle.checks.specs.Checks.{firstMet}
 use Rattle.checks.proofs.Laws.{parameters-in}
+use Rattle.checks.proofs.AnswerLaws.{answer-refused}
 use Rattle.lists.specs.Lists.{placeIn, noneLive, isLive, setLive, liveNodes, liveOutside}
 use Rattle.lists.proofs.Laws.{live-of-list, marks-of-live-nodes, list-outside-none, outside-more}
 use Rattle.boxes.specs.Box.{familyIn, kIn, blockLengthIn, namesIn, nodeCountIn, boxChecks}
-use Rattle.boxes.proofs.Answers.{by-length, by-box, body-empty}
+use Rattle.boxes.proofs.Answers.{by-page, by-tests, by-box, body-empty}
 use Rattle.boxes.proofs.Laws.{accepted-box}
 use Rattle.boxes.proofs.Proved.{body-claim, box-of-body-claim}
 use Rattle.repair.specs.declared.Session.{Session}
 use Rattle.repair.specs.declared.Started.{Started}
-use Rattle.repair.specs.Session.{sessionWith, started, nodeCountOf, noStart}
+use Rattle.repair.specs.Session.{sessionWith, refusedStart, started, nodeCountOf, noStart}
 use Rattle.repair.specs.Boxed.{checkedBox, listed}
-use Rattle.repair.specs.Claims.{StartClaim, FromStart, NoStartClaim, StartMarksClaim, WriteReadClaim, ReadKeepsClaim, ReadWriteClaim, ReadBodyClaim, WrittenBodyClaim, BoxStartClaim, WrongCountClaim}
+use Rattle.repair.specs.Claims.{StartClaim, FromStart, NoStartClaim, StartMarksClaim, WriteReadClaim, ReadKeepsClaim, ReadWriteClaim, ReadBodyClaim, WrittenBodyClaim, BoxStartClaim, RefusedBox, WrongCountClaim}
 use Rattle.repair.proofs.Accepted.{start-accepted, check-accepted, read-accepted, write-accepted}
 use Rattle.repair.proofs.StartLaws.{known, start-0, no-start-marks, accepted-start}
 use Rattle.repair.proofs.ListedLaws.{place-there, place-before}
@@ -135,13 +136,17 @@ written-body-claim s nodes list out h i l =
 
 -- ---- a page that counts another number
 
-pub wrong-count-claim : WrongCountClaim
+refused-box : (bytes : List ℕ) (r : ℕ) → firstMet (boxChecks bytes) ≡ suc r → RefusedBox bytes (suc r)
 unfolding checkedBox
-wrong-count-claim bytes long e z other =
-    let b = by-length bytes long e z other in
+refused-box bytes r b =
     let some : firstMet (boxChecks bytes) ≡ 0 → ⊥ = λ none. omega (arith, b) in
     record {
-      check = rw b;
-      read = λ nodes. let r = read-by-box bytes nodes 7 (sym b) (λ z. omega arith) in (sym (r .answer-is), sym (r .buffer-is));
+      check = answer-refused (boxChecks bytes) _ refusedStart some ∙ ap refusedStart b;
+      read = λ nodes. let t = read-by-box bytes nodes (suc r) (sym b) (λ z. omega arith) in (sym (t .answer-is), sym (t .buffer-is));
       body = λ j. let y = by-box bytes j some ∙ b in (y, body-empty bytes j (λ none. omega (arith, y)));
     }
+
+pub wrong-count-claim : WrongCountClaim
+wrong-count-claim bytes p other =
+    let page = by-page bytes (p .long) (parameters-in _ _ _ (p .range)) in
+    refused-box bytes 6 (page ∙ by-tests bytes (p .zeros) (ne-eqb _ _ other) refl)

@@ -9,11 +9,10 @@ use Rattle.families.specs.Families.{familyOf, nodeCount}
 use Rattle.blocks.specs.Blocks.{blockOf}
 use Rattle.checks.specs.Checks.{firstMet}
 use Rattle.checks.specs.Claims.{InRange}
-use Rattle.checks.specs.Parameters.{parameterChecks}
 use Rattle.lists.specs.Lists.{someOutside, rises, isIn, isLive}
-use Rattle.boxes.specs.Box.{familyIn, kIn, blockLengthIn, heldCountIn, zerosIn, namesIn, boxLength, bodyChecks, bodyOf}
+use Rattle.boxes.specs.Box.{familyIn, kIn, blockLengthIn, heldCountIn, namesIn, boxLength, bodyChecks, bodyOf}
 use Rattle.boxes.specs.Bodies.{boxOf}
-use Rattle.boxes.specs.Claims.{AcceptedBox, Named}
+use Rattle.boxes.specs.Claims.{AcceptedBox, SoundHead, Named}
 use Rattle.repair.specs.declared.Session.{Session}
 use Rattle.repair.specs.Session.{sessionOf, acceptedStart, refusedStart, started, nodeCountOf, noStart}
 use Rattle.repair.specs.Boxed.{sessionIn, checkedBox, readBox, nodesRead, listed, writtenLength, written, outWritten}
@@ -112,14 +111,14 @@ pub record BoxSession (bytes : List ℕ) : Type 0 where
 abbrev pub BoxStartClaim : Type 0
 BoxStartClaim = (bytes : List ℕ) → checkedBox bytes .refusal ≡ 0 → BoxSession bytes
 
--- 7 is what check, read and a body give
-pub record Cut (bytes : List ℕ) : Type 0 where
-  pub check : checkedBox bytes ≡ refusedStart 7
-  pub read : (nodes : List ℕ) → (readBox bytes nodes ≡ refusedStart 7) × (nodesRead bytes nodes ≡ nodes)
-  pub body : (j : ℕ) → (firstMet (bodyChecks bytes j) ≡ 7) × (bodyOf bytes j ≡ [])
+-- this number is what check, read and a body give
+pub record RefusedBox (bytes : List ℕ) (number : ℕ) : Type 0 where
+  pub check : checkedBox bytes ≡ refusedStart number
+  pub read : (nodes : List ℕ) → (readBox bytes nodes ≡ refusedStart number) × (nodesRead bytes nodes ≡ nodes)
+  pub body : (j : ℕ) → (firstMet (bodyChecks bytes j) ≡ number) × (bodyOf bytes j ≡ [])
 
 -- a page that counts E nodes with a length for another number of them, or any other length, gives 7, before any number or body is
 -- looked at
 abbrev pub WrongCountClaim : Type 0
-WrongCountClaim = (bytes : List ℕ) → 8 ≤ length bytes → firstMet (parameterChecks (familyIn bytes) (kIn bytes) (blockLengthIn bytes)) ≡ 0 → zerosIn bytes ≡ true
-    → (length bytes ≡ boxLength (heldCountIn bytes) (blockLengthIn bytes) → ⊥) → Cut bytes
+WrongCountClaim = (bytes : List ℕ) → SoundHead bytes
+    → (length bytes ≡ boxLength (heldCountIn bytes) (blockLengthIn bytes) → ⊥) → RefusedBox bytes 7

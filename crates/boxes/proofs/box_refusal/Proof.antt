@@ -4,7 +4,8 @@ use mathlib.Core.Path.{_≡_, sym, _∙_}
 use native.Mathlib.Omega.{arith}
 use borrow.Author.Needs.{needs}
 use Rattle.checks.specs.Checks.{firstMet}
-use Rattle.boxes.proofs.Answers.{parametersOf, by-short, by-parameters}
+use Rattle.checks.proofs.Laws.{in-range}
+use Rattle.boxes.proofs.Answers.{parametersOf, by-short, by-parameters, by-page}
 use Rattle.boxes.proofs.box_refusal.Statement.{statement}
 use Rattle.boxes.proofs.box_refusal.Tie as tie
 
@@ -18,6 +19,10 @@ returns-2 c =
     let i = bad-is (search) in
     i ∙ sym (by-parameters (e .args .bytes .now) (omega arith) (rw i at (c .if2 .taken)))
 
+-- 1 to 3 are passed
+passed : (c : tie.Else2) → firstMet (parametersOf (c .before .before .before .before .before .before .before .args .bytes .now)) ≡ 0
+passed c = sym (bad-is (search)) ∙ c .if2 .left
+
 pub box-refusal-spec : {M : Type 1} → statement M
 box-refusal-spec =
     tie.close
@@ -28,5 +33,5 @@ box-refusal-spec =
     (λ c κs. search needs)
     (λ c κs. search needs)
     returns-2
-    (λ c κs. (omega arith, sym (bad-is (search)) ∙ c .if2 .left))
-    (λ c. search needs))
+    (λ c κs. (omega arith, in-range _ _ _ (passed (search)) .blocks))
+    (λ c. c .page-refusal .ensures ∙ sym (by-page _ (omega arith) (passed (search)))))
