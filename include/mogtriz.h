@@ -45,7 +45,7 @@
  * The version of this header, raised when a layout or an answer changes. Where the library's is another, what it takes and gives
  * may be other than what is said here.
  */
-#define MOGTRIZ_VERSION 2
+#define MOGTRIZ_VERSION 3
 
 /* The families, with the range of k and n. */
 #define MOGTRIZ_SIMPLEX 1 /* n is 2^k - 1 */
@@ -232,8 +232,9 @@ MOGTRIZ_CALL mogtriz_started mogtriz_start(size_t family, size_t k, size_t len, 
  */
 
 /*
- * A box checked alone, which gives its session. Gives 0 or: 7 for a box that is shorter than its head, 1, 2, 3, 8, 7 where the
- * length is not as its contents say, 9, 4, 5.
+ * A box checked alone, which gives its session. Gives 0 or: 7 for a box that is shorter than its head, 1, 2, 3, 8, 9, 7 where the
+ * length is not as its contents say, 4 over all its node numbers, 5. E above n, 9, comes before the length: such a count
+ * is not taken for a cut box.
  */
 MOGTRIZ_CALL mogtriz_started mogtriz_check(const uint8_t *box, size_t box_len);
 

@@ -55,11 +55,15 @@ static void call_start(void)
 
 static void call_boxes(void)
 {
-    uint8_t nodes[N * LEN] = {0}, out[sizeof three_box + 1];
+    uint8_t nodes[N * LEN] = {0}, out[sizeof three_box + 1], miscounted[sizeof three_box];
     mogtriz_started checked = mogtriz_check(three_box, sizeof three_box);
     EXPECT(checked.refusal == MOGTRIZ_SERVED && same_session(checked.session, three_live()));
     checked = mogtriz_check(three_box, sizeof three_box - 1);
     EXPECT(checked.refusal == MOGTRIZ_REFUSED_BOX_LENGTH && same_session(checked.session, no_session()));
+    memcpy(miscounted, three_box, sizeof miscounted);
+    miscounted[4] = N + 1;
+    checked = mogtriz_check(miscounted, sizeof miscounted);
+    EXPECT(checked.refusal == MOGTRIZ_REFUSED_TOO_MANY_NODES && same_session(checked.session, no_session()));
 
     mogtriz_started box_read = mogtriz_read(three_box, sizeof three_box, nodes, sizeof nodes);
     EXPECT(box_read.refusal == MOGTRIZ_SERVED && same_session(box_read.session, three_live()));

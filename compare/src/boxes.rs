@@ -138,7 +138,7 @@ struct Contents<'a> {
     bodies: &'a [u8],
 }
 
-/// The checks of a box alone: 7 under 8 bytes, 1, 2, 3, 8, 7, 9, 4, 5.
+/// The checks of a box alone: 7 under 8 bytes, 1, 2, 3, 8, 9, 7, 4, 5 (document 02, K12).
 fn contents(bytes: &[u8]) -> Result<Contents<'_>, u8> {
     let Some((head, rest)) = bytes.split_at_checked(HEAD) else {
         return Err(7);
@@ -149,11 +149,11 @@ fn contents(bytes: &[u8]) -> Result<Contents<'_>, u8> {
     if head[5..] != [0, 0, 0] {
         return Err(8);
     }
-    if bytes.len() != box_len(held, len) {
-        return Err(7);
-    }
     if held > n {
         return Err(9);
+    }
+    if bytes.len() != box_len(held, len) {
+        return Err(7);
     }
     let (list, bodies) = rest.split_at(held);
     check_list(list, n)?;

@@ -113,12 +113,12 @@ fn boxes_with_faulty_lists(random: &mut Random, visit: Visit) {
     }
 }
 
-/// E one too small or too large, and at n and above.
+/// E one too small or too large, at n and above, and 255.
 fn boxes_with_a_wrong_count(random: &mut Random, visit: Visit) {
     for bytes in small_boxes(random) {
         let n = checked_node_count(bytes[0].into(), bytes[1].into(), 1).expect("a sound head");
-        let near_n = [n, n + 1, n + 2].map(|count| count as u8);
-        let near = [bytes[4].wrapping_sub(1), bytes[4].wrapping_add(1)];
+        let near_n = [n, n + 1, n + 2].map(|count| count.min(255) as u8);
+        let near = [bytes[4].wrapping_sub(1), bytes[4].wrapping_add(1), 255];
         for count in near_n.into_iter().chain(near) {
             visit_with_count(&bytes, count, random, visit);
         }
@@ -191,6 +191,84 @@ fn boxes_are_checked_as_the_papers_say() {
     over_every_kind(&mut tally, |tally, _, bytes| {
         tally.add(calls::check(bytes));
     });
+    tally.report(&[0, 1, 2, 3, 4, 5, 7, 8, 9], 500_000);
+}
+
+/// What the head of a box says: n, or 1, 2 or 3 where the box is refused for it; and whether the length is as the head asks.
+struct Fields {
+    n: Result<usize, u8>,
+    zeros: bool,
+    held: usize,
+    right_length: bool,
+}
+
+impl Fields {
+    fn of(bytes: &[u8]) -> Fields {
+        let (len, held) = (len_of(bytes), usize::from(bytes[4]));
+        Fields {
+            n: checked_node_count(bytes[0].into(), bytes[1].into(), len),
+            zeros: bytes[5..HEAD] == [0; 3],
+            held,
+            right_length: bytes.len() == box_len(held, len),
+        }
+    }
+}
+
+/// What a box gave before document 02, K12: 7 under 8 bytes, 1, 2, 3, 8, 7, 9, 4, 5.
+fn number_before(bytes: &[u8]) -> u8 {
+    if bytes.len() < HEAD {
+        return 7;
+    }
+    let fields = Fields::of(bytes);
+    let n = match fields.n {
+        Err(number) => return number,
+        Ok(n) => n,
+    };
+    if !fields.zeros {
+        return 8;
+    }
+    if !fields.right_length {
+        return 7;
+    }
+    if fields.held > n {
+        return 9;
+    }
+    let names = &bytes[HEAD..HEAD + fields.held];
+    if names.iter().any(|&node| node == 0 || usize::from(node) > n) {
+        return 4;
+    }
+    if names.is_sorted_by(|a, b| a < b) {
+        0
+    } else {
+        5
+    }
+}
+
+/// K12's words: it has 8 bytes or more, passes 1, 2, 3 and 8, and has E above n and the wrong length.
+fn changed_by_k12(bytes: &[u8]) -> bool {
+    if bytes.len() < HEAD {
+        return false;
+    }
+    let fields = Fields::of(bytes);
+    fields.n.is_ok_and(|n| fields.held > n) && fields.zeros && !fields.right_length
+}
+
+#[test]
+fn the_answers_that_changed_are_those_of_k12() {
+    let mut tally = Tally::of("check");
+    let mut changed = 0;
+    over_every_kind(&mut tally, |tally, _, bytes| {
+        let (before, now) = (number_before(bytes), calls::check(bytes));
+        if changed_by_k12(bytes) {
+            assert_eq!((before, now), (7, 9), "{bytes:02x?}");
+            changed += 1;
+        } else {
+            assert_eq!(before, now, "{bytes:02x?}");
+        }
+        tally.add(now);
+    });
+    println!("{changed} of these were 7 before K12");
+    assert!(changed >= 10_000);
     tally.report(&[0, 1, 2, 3, 4, 5, 7, 8, 9], 500_000);
 }
 

@@ -4,6 +4,7 @@ use crate::input::{Input, MOST_BYTES};
 use crate::seen::Operation::{Body, Check, Plan, Read, ReadOut, Run, Write};
 use crate::seen::count;
 use compare::boxes::{self, HEAD, box_len, live_nodes};
+use compare::papers::checked_node_count;
 use compare::{calls, library};
 use mogtriz::raw::Session;
 
@@ -12,8 +13,8 @@ pub fn compare(input: &mut Input) {
     // the length is near what the box asks for, which follows
     let mut tags = Input(input.part(2));
     let list = input.list();
-    let fitted = input.byte() % 2 == 1;
-    let bytes = &box_from(input.0, fitted);
+    let tag = input.byte();
+    let bytes = &box_from(input.0, tag);
     count(Check, calls::check(bytes));
     // the other numbers are the first again once cut to 8, 16 or 32 bits
     for raise in [0, 1 << 8, 1 << 16, 1 << 32] {
@@ -28,15 +29,29 @@ pub fn compare(input: &mut Input) {
     }
 }
 
-/// The bytes as they are, or cut or filled to the length that they say, so that more than 7 is reached.
-fn box_from(bytes: &[u8], fitted: bool) -> Vec<u8> {
+/// The bytes as they are, or with E near n; and of their own length, or cut or filled to the one that the head asks for, so that the
+/// checks after 7 are reached.
+fn box_from(bytes: &[u8], tag: u8) -> Vec<u8> {
     let mut bytes = bytes.to_vec();
-    if fitted && bytes.len() >= HEAD {
-        let len = u16::from_le_bytes([bytes[2], bytes[3]]);
+    if bytes.len() < HEAD {
+        return bytes;
+    }
+    let len = u16::from_le_bytes([bytes[2], bytes[3]]);
+    if tag & 2 != 0 {
+        bytes[4] = near_n(bytes[0].into(), bytes[1].into(), tag >> 2);
+    }
+    if tag & 1 != 0 {
         let length = box_len(bytes[4].into(), len.into());
         bytes.resize(length.min(MOST_BYTES), 0xc3);
     }
     bytes
+}
+
+/// n − 1, n, n + 1 or n + 2 of a family and k, 255 where that is no byte; near 0 where they are out of range.
+fn near_n(family: usize, k: usize, choice: u8) -> u8 {
+    let n = checked_node_count(family, k, 1).unwrap_or(1);
+    let held = n - 1 + usize::from(choice % 4);
+    held.min(255) as u8
 }
 
 /// An accepted box has the same bytes when it is written again; then lists of its nodes, a run, and all that is live.

@@ -41,8 +41,8 @@ impl Session {
     /// - 2, [`Refusal::KOutOfRange`]
     /// - 3, [`Refusal::LenOutOfRange`]
     /// - 8, [`Refusal::NotZero`]
+    /// - 9, [`Refusal::TooManyNodes`]: E is above n; the length is looked at after this
     /// - 7, [`Refusal::BoxLength`]: the length is not as the contents say
-    /// - 9, [`Refusal::TooManyNodes`]
     /// - 4, [`Refusal::NoSuchNode`]: anywhere among its node numbers
     /// - 5, [`Refusal::NotRising`]
     ///
@@ -54,6 +54,8 @@ impl Session {
     /// assert!(session.live_nodes().eq([4, 5, 7]));
     ///
     /// assert_eq!(Session::check(&bytes[..13]), Err(Refusal::BoxLength));
+    /// let counts_8_of_7 = [1, 3, 1, 0, 8, 0, 0, 0, 4, 5, 7, 4, 5, 7];
+    /// assert_eq!(Session::check(&counts_8_of_7), Err(Refusal::TooManyNodes));
     /// # Ok::<(), mogtriz::Refusal>(())
     /// ```
     pub fn check(bytes: &[u8]) -> Result<Session, Refusal> {

@@ -4,7 +4,7 @@
 use core::fmt;
 
 /// `MOGTRIZ_VERSION` of the header that this is declared from.
-pub const VERSION: usize = 2;
+pub const VERSION: usize = 3;
 
 /// How many marks a session holds, by node number.
 pub const MARKS: usize = 256;

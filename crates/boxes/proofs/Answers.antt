@@ -49,7 +49,7 @@ module _ (bytes : List ℕ) where
   pub by-tests : {zero right many : Bool} → zerosIn bytes ≡ zero
       → eqb (length bytes) (boxLength (heldCountIn bytes) (blockLengthIn bytes)) ≡ right
       → ltb (nodeCountIn bytes) (heldCountIn bytes) ≡ many
-      → firstMet (pageChecks bytes) ≡ cond (not zero) 8 (cond (not right) 7 (cond many 9 (firstMet (listChecks (nodeCountIn bytes) (namesIn bytes)))))
+      → firstMet (pageChecks bytes) ≡ cond (not zero) 8 (cond many 9 (cond (not right) 7 (firstMet (listChecks (nodeCountIn bytes) (namesIn bytes)))))
   unfolding firstMet
   by-tests z s h = rw (z, s, h)
 

@@ -153,12 +153,12 @@ accepted-box bytes e =
     let n = box-none bytes e in
     let p = n .1 in
     let m = p .1 .1 .1 in
-    let s : length bytes ≡ boxLength (heldCountIn bytes) (blockLengthIn bytes) = eqb-true _ _ (not-false _ (m .1 .0)) in
+    let s : length bytes ≡ boxLength (heldCountIn bytes) (blockLengthIn bytes) = eqb-true _ _ (not-false _ (m .1 .1 .0)) in
     record {
       size = s;
       range = range-of (familyIn bytes) (kIn bytes) (blockLengthIn bytes) (p .0, (p .1 .0, (p .1 .1 .0, tt)));
       zeros = not-false (zerosIn bytes) (m .0);
-      few-held = ltb-false (nodeCountIn bytes) (heldCountIn bytes) (m .1 .1 .0);
+      few-held = ltb-false (nodeCountIn bytes) (heldCountIn bytes) (m .1 .0);
       nodes = m .1 .1 .1 .0;
       rising = not-false (rises (namesIn bytes)) (m .1 .1 .1 .1 .0);
       names-size = length-names bytes (omega arith);

@@ -1,24 +1,28 @@
 -- The claims of specs/Claims.antt.
 -- Assumes nothing.
 use mathlib.Core.Path.{_≡_, refl, sym, ap, _∙_}
-use mathlib.Core.Bool.{true, not}
-use mathlib.Core.List.{List, [], _∷_}
+use mathlib.Core.Bool.{Bool, true, not}
+use mathlib.Core.List.{List, [], _∷_, _++_}
+use mathlib.Core.Logic.{⊎-elim}
 use Prim.Native.Nat.{ℕ, zero, suc, _+_, _*_, _≤_, _<_}
 use native.Mathlib.Omega.{arith}
-use borrow.Author.Tests.{le-ltb, eq-eqb, ne-eqb}
+use borrow.Author.Tests.{lt-ltb, le-ltb, eq-eqb, ne-eqb, ltb-true, ltb-false, eqb-false, not-true, not-false}
+use lib.Dec.{eqb, ltb}
 use lib.ListN.{length, getD}
 use lib.Seq.{drop-drop}
 use borrow.Rule.Slice.PartMut.{midOf}
 use Rattle.families.specs.Families.{familyOf, nodeCount, IsNode}
 use Rattle.blocks.specs.Blocks.{blockOf}
 use Rattle.blocks.proofs.PartLaws.{length-mid}
-use Rattle.checks.specs.Checks.{firstMet}
-use Rattle.checks.proofs.Laws.{none-zero, parameters-in}
+use Rattle.checks.specs.Checks.{Check, _gives_, firstMet}
+use Rattle.checks.specs.Claims.{NoneMet}
+use Rattle.checks.specs.Parameters.{parameterChecks}
+use Rattle.checks.proofs.Laws.{none-zero, none-append, exchanged, range-of, parameters-in, parameters-none}
 use Rattle.lists.specs.Lists.{rises, listChecks, placeIn}
-use Rattle.boxes.specs.Box.{familyIn, kIn, blockLengthIn, heldCountIn, namesIn, bodiesIn, nodeCountIn, boxChecks, bodyChecks, bodyPlace, bodyOf}
+use Rattle.boxes.specs.Box.{familyIn, kIn, blockLengthIn, heldCountIn, zerosIn, namesIn, bodiesIn, nodeCountIn, boxLength, boxChecks, bodyChecks, bodyPlace, bodyOf}
 use Rattle.boxes.specs.Bodies.{boxOf, withBodies}
-use Rattle.boxes.specs.Claims.{AcceptedBox, BoxClaim, BodyClaims, BodyClaim, BoxOfBodyClaim}
-use Rattle.boxes.proofs.Answers.{by-page, by-tests, by-none, body-part}
+use Rattle.boxes.specs.Claims.{AcceptedBox, BoxClaim, SoundHead, oldBoxChecks, Miscounted, Changed, OrderClaim, BodyClaims, BodyClaim, BoxOfBodyClaim}
+use Rattle.boxes.proofs.Answers.{parametersOf, by-page, by-tests, by-none, body-part}
 use Rattle.boxes.proofs.Laws.{accepted-box, node-inside, list-in, in-kept, rises-rest, rises-above, body-fits, body-at, bodies-there, bodies-same, length-withBodies, fields-of}
 
 -- ---- a box
@@ -31,6 +35,61 @@ box-claim bytes = (accepted-box bytes, back)
         by-page bytes (omega (arith, a .size)) (parameters-in _ _ _ (a .range))
         ∙ by-tests bytes (a .zeros) (eq-eqb _ _ (a .size)) (le-ltb _ _ (a .few-held))
         ∙ none-zero (listChecks (nodeCountIn bytes) (namesIn bytes)) (a .nodes, (ap not (a .rising), tt))
+
+-- ---- the order of checks before document 02, K12
+
+module _ (bytes : List ℕ) where
+  -- the checks before 9 and the full-length 7
+  abbrev earlier : List Check
+  earlier = (ltb (length bytes) 8 gives 7) ∷ (parametersOf bytes ++ ((not (zerosIn bytes) gives 8) ∷ []))
+
+  earlier-none : SoundHead bytes → NoneMet earlier
+  unfolding parameterChecks
+  earlier-none p =
+      let q = parameters-none (familyIn bytes) (kIn bytes) (blockLengthIn bytes) (parameters-in _ _ _ (p .range)) in
+      (le-ltb (length bytes) 8 (p .long), (q .0, (q .1 .0, (q .1 .1 .0, (ap not (p .zeros), tt)))))
+
+  head : NoneMet earlier → SoundHead bytes
+  unfolding parameterChecks
+  head n =
+      record {
+        long = ltb-false (length bytes) 8 (n .0);
+        range = range-of (familyIn bytes) (kIn bytes) (blockLengthIn bytes) (n .1 .0, (n .1 .1 .0, (n .1 .1 .1 .0, tt)));
+        zeros = not-false (zerosIn bytes) (n .1 .1 .1 .1 .0);
+      }
+
+  abbrev right : Bool
+  right = eqb (length bytes) (boxLength (heldCountIn bytes) (blockLengthIn bytes))
+
+  abbrev many : Bool
+  many = ltb (nodeCountIn bytes) (heldCountIn bytes)
+
+  miscounted : NoneMet earlier × (many ≡ true) × (not right ≡ true) → Miscounted bytes
+  miscounted e =
+      record {
+        head = head (e .0);
+        many = ltb-true (nodeCountIn bytes) (heldCountIn bytes) (e .1);
+        wrong-size = eqb-false (length bytes) (boxLength (heldCountIn bytes) (blockLengthIn bytes)) (not-true right (e .2));
+      }
+
+  module _ (later : List Check) where
+    abbrev rest : List Check
+    rest = listChecks (nodeCountIn bytes) (namesIn bytes) ++ later
+
+    changed : Changed bytes (firstMet (boxChecks bytes ++ later)) (firstMet (oldBoxChecks bytes ++ later))
+    unfolding boxChecks oldBoxChecks parameterChecks firstMet
+    changed =
+        let either = exchanged earlier many (not right) 9 7 rest in
+        record {
+          new-there = λ m. none-append earlier ((many gives 9) ∷ (not right gives 7) ∷ rest) (earlier-none (m .head)) ∙ rw (lt-ltb (nodeCountIn bytes) (heldCountIn bytes) (m .many));
+          old-there = λ m. none-append earlier ((not right gives 7) ∷ (many gives 9) ∷ rest) (earlier-none (m .head)) ∙ rw (ne-eqb (length bytes) (boxLength (heldCountIn bytes) (blockLengthIn bytes)) (m .wrong-size));
+          same = λ n. ⊎-elim (λ e. absurd (n (miscounted e))) (λ e. e) either;
+          only = λ n. ⊎-elim miscounted (λ e. absurd (n e)) either;
+        }
+
+pub order-claim : OrderClaim
+unfolding bodyChecks boxChecks oldBoxChecks parameterChecks
+order-claim bytes = record { check = changed bytes []; body = λ j. changed bytes _; followed = changed bytes }
 
 -- ---- the body of a node
 

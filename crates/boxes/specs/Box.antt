@@ -43,12 +43,12 @@ boxLength E L = 8 + E + E * L
 abbrev pub nodeCountIn : List ℕ → ℕ
 nodeCountIn bytes = nodeCount (familyOf (familyIn bytes)) (kIn bytes)
 
--- of the page of contents 8, full length 7, 9, 4, 5
+-- of the page of contents 8, 9, full length 7, 4, 5 (document 02, K12)
 abbrev pub pageChecks : List ℕ → List Check
 pageChecks bytes =
     (not (zerosIn bytes) gives 8)
-    ∷ (not (eqb (length bytes) (boxLength (heldCountIn bytes) (blockLengthIn bytes))) gives 7)
     ∷ (ltb (nodeCountIn bytes) (heldCountIn bytes) gives 9)
+    ∷ (not (eqb (length bytes) (boxLength (heldCountIn bytes) (blockLengthIn bytes))) gives 7)
     ∷ listChecks (nodeCountIn bytes) (namesIn bytes)
 
 -- under 8 bytes 7, then 1, 2, 3, then those of the page

@@ -1,15 +1,18 @@
 -- What is proved of boxes besides the contracts; proofs/Proved.antt has the proofs.
 use mathlib.Core.Path.{_≡_}
-use mathlib.Core.Bool.{true, false}
-use mathlib.Core.List.{List}
+use mathlib.Core.Bool.{true, false, not}
+use mathlib.Core.List.{List, [], _∷_, _++_}
 use mathlib.Core.Logic.{_↔_}
 use Prim.Native.Nat.{ℕ, _*_, _≤_, _<_}
 use lib.ListN.{length, getD}
+use lib.Dec.{eqb, ltb}
+use Rattle.base.specs.Ranges.{outside}
 use Rattle.families.specs.Families.{familyOf, nodeCount, IsNode}
-use Rattle.checks.specs.Checks.{firstMet}
+use Rattle.checks.specs.Checks.{Check, _gives_, firstMet}
 use Rattle.checks.specs.Claims.{InRange}
+use Rattle.checks.specs.Parameters.{parameterChecks}
 use Rattle.blocks.specs.Blocks.{blockOf}
-use Rattle.lists.specs.Lists.{someOutside, rises}
+use Rattle.lists.specs.Lists.{someOutside, rises, listChecks, isIn}
 use Rattle.boxes.specs.Box.{familyIn, kIn, blockLengthIn, heldCountIn, zerosIn, namesIn, bodiesIn, nodeCountIn, boxLength, boxChecks, bodyChecks, bodyOf}
 use Rattle.boxes.specs.Bodies.{boxOf, withBodies}
 
@@ -45,6 +48,41 @@ pub record Named (bytes : List ℕ) (j : ℕ) : Type 0 where
   pub place : ℕ
   pub within : place < heldCountIn bytes
   pub there : getD (namesIn bytes) place 0 ≡ j
+
+-- ---- what document 02, K12, changed in the order of checks
+
+-- the order before it: under 8 bytes 7, then 1, 2, 3, 8, full length 7, 9, 4, 5
+unfoldable pub oldBoxChecks : List ℕ → List Check
+oldBoxChecks bytes =
+    (ltb (length bytes) 8 gives 7)
+    ∷ (parameterChecks (familyIn bytes) (kIn bytes) (blockLengthIn bytes)
+    ++ ((not (zerosIn bytes) gives 8)
+    ∷ (not (eqb (length bytes) (boxLength (heldCountIn bytes) (blockLengthIn bytes))) gives 7)
+    ∷ (ltb (nodeCountIn bytes) (heldCountIn bytes) gives 9)
+    ∷ listChecks (nodeCountIn bytes) (namesIn bytes)))
+
+-- a box that passes 8, and has E above n and the wrong length
+pub record Miscounted (bytes : List ℕ) : Type 0 where
+  pub head : SoundHead bytes
+  pub many : nodeCountIn bytes < heldCountIn bytes
+  pub wrong-size : length bytes ≡ boxLength (heldCountIn bytes) (blockLengthIn bytes) → ⊥
+
+-- of such a box the new answer is 9 and the old one was 7; of every other they are the same; where they differ it is such a box
+pub record Changed (bytes : List ℕ) (new old : ℕ) : Type 0 where
+  pub new-there : Miscounted bytes → new ≡ 9
+  pub old-there : Miscounted bytes → old ≡ 7
+  pub same : (Miscounted bytes → ⊥) → new ≡ old
+  pub only : (new ≡ old → ⊥) → Miscounted bytes
+
+-- so of a box checked alone, of the body of a node, with 4 and 12 after the box's checks, and of any others that follow these
+pub record OrderClaims (bytes : List ℕ) : Type 0 where
+  pub check : Changed bytes (firstMet (boxChecks bytes)) (firstMet (oldBoxChecks bytes))
+  pub body : (j : ℕ) → Changed bytes (firstMet (bodyChecks bytes j)) (firstMet (oldBoxChecks bytes ++ ((outside 1 (nodeCountIn bytes) j gives 4) ∷ (not (isIn (namesIn bytes) j) gives 12) ∷ [])))
+  pub followed : (later : List Check) → Changed bytes (firstMet (boxChecks bytes ++ later)) (firstMet (oldBoxChecks bytes ++ later))
+
+-- for every box
+abbrev pub OrderClaim : Type 0
+OrderClaim = (bytes : List ℕ) → OrderClaims bytes
 
 -- ---- the body of a node
 

@@ -100,12 +100,12 @@ fn page_refusal(bytes: &[u8]) -> u8
     if !zero {
         return 8;
     }
+    if n < count {
+        return 9;
+    }
     // the numbers and bodies are looked at only once the length is as E says
     if bytes.len() != full {
         return 7;
-    }
-    if n < count {
-        return 9;
     }
     lists::list_refusal(n, names(bytes))
 }

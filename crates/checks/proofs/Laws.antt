@@ -3,6 +3,7 @@
 use mathlib.Core.Path.{_≡_, refl, ap, _∙_}
 use mathlib.Core.Bool.{Bool, true, false, _&&_, true≢false, false≢true}
 use mathlib.Core.List.{List, [], _∷_, _++_}
+use mathlib.Core.Logic.{_⊎_, inl, inr, ⊎-elim}
 use Prim.Native.Nat.{ℕ, zero, suc, _*_, _≤_}
 use native.Mathlib.Nat.{mul-le-mul}
 use native.Mathlib.Omega.{arith}
@@ -72,6 +73,16 @@ unfolding firstMet
 some-append [] later n = absurd (n refl)
 some-append ((true gives r) ∷ checks) later n = refl
 some-append ((false gives r) ∷ checks) later n = some-append checks later n
+
+-- two checks that follow each other, in either order: the same is given, or both are met and none before them is
+pub exchanged : (checks : List Check) (a b : Bool) (m n : ℕ) (later : List Check)
+    → (NoneMet checks × (a ≡ true) × (b ≡ true)) ⊎ (firstMet (checks ++ (a gives m) ∷ (b gives n) ∷ later) ≡ firstMet (checks ++ (b gives n) ∷ (a gives m) ∷ later))
+unfolding firstMet
+exchanged [] true true m n later = inl (tt, refl, refl)
+exchanged [] true false m n later = inr refl
+exchanged [] false b m n later = inr refl
+exchanged ((true gives r) ∷ checks) a b m n later = inr refl
+exchanged ((false gives r) ∷ checks) a b m n later = ⊎-elim (λ e. inl ((refl, e .0), e .1, e .2)) inr (exchanged checks a b m n later)
 
 -- ---- 1 to 3
 

@@ -166,7 +166,7 @@ computed =
     & (refl, refl)
     & (refl, refl)
     & refl & refl & refl & refl & refl & refl & refl & refl & refl & refl
-    & refl & refl & refl & refl & refl
+    & refl & refl & refl & refl & refl & refl & refl
     & refl & refl & refl
     & tt
 

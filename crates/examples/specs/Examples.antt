@@ -153,11 +153,14 @@ table =
     ∷ Starts 4 9 0 [] 1
     ∷ Starts 1 3 0 [] 3
     ∷ Starts 1 3 1 (8 ∷ 3 ∷ []) 4
-    -- The box above one byte shorter or longer, and no byte at all; 8 before the full-length 7, and 9 before 5
+    -- The box above one byte shorter or longer, and no byte at all; with E 8, which is above n, 8 before 9, and 9
+    -- before the full-length 7; with E 7 that 7; and 9 before 5
     ∷ BoxGives (1 ∷ 3 ∷ 1 ∷ 0 ∷ 3 ∷ 0 ∷ 0 ∷ 0 ∷ 4 ∷ 5 ∷ 7 ∷ 4 ∷ 5 ∷ []) 7
     ∷ BoxGives (1 ∷ 3 ∷ 1 ∷ 0 ∷ 3 ∷ 0 ∷ 0 ∷ 0 ∷ 4 ∷ 5 ∷ 7 ∷ 4 ∷ 5 ∷ 7 ∷ 0 ∷ []) 7
     ∷ BoxGives [] 7
-    ∷ BoxGives (1 ∷ 3 ∷ 1 ∷ 0 ∷ 3 ∷ 0 ∷ 0 ∷ 1 ∷ 4 ∷ 5 ∷ 7 ∷ 4 ∷ 5 ∷ 7 ∷ []) 8
+    ∷ BoxGives (1 ∷ 3 ∷ 1 ∷ 0 ∷ 8 ∷ 0 ∷ 0 ∷ 1 ∷ 4 ∷ 5 ∷ 7 ∷ 4 ∷ 5 ∷ 7 ∷ []) 8
+    ∷ BoxGives (1 ∷ 3 ∷ 1 ∷ 0 ∷ 8 ∷ 0 ∷ 0 ∷ 0 ∷ 4 ∷ 5 ∷ 7 ∷ 4 ∷ 5 ∷ 7 ∷ []) 9
+    ∷ BoxGives (1 ∷ 3 ∷ 1 ∷ 0 ∷ 7 ∷ 0 ∷ 0 ∷ 0 ∷ 4 ∷ 5 ∷ 7 ∷ 4 ∷ 5 ∷ 7 ∷ []) 7
     ∷ BoxGives (1 ∷ 2 ∷ 1 ∷ 0 ∷ 4 ∷ 0 ∷ 0 ∷ 0 ∷ 1 ∷ 2 ∷ 3 ∷ 3 ∷ 9 ∷ 9 ∷ 9 ∷ 9 ∷ []) 9
     -- Example h as a box, an empty input, and a box of no node with L 259
     ∷ Lists (3 ∷ 4 ∷ 1 ∷ 0 ∷ 2 ∷ 0 ∷ 0 ∷ 0 ∷ 4 ∷ 8 ∷ 9 ∷ 6 ∷ []) "family 3 k 4 length 1 live 2\nsteps 0 rounds 0 left 12\n"

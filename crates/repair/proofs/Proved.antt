@@ -5,7 +5,7 @@ use mathlib.Core.Bool.{Bool, false}
 use mathlib.Core.List.{List, [], _∷_}
 use Prim.Native.Nat.{ℕ, suc, _<_}
 use native.Mathlib.Omega.{arith}
-use borrow.Author.Tests.{lt-ltb, ne-eqb, ltb-true}
+use borrow.Author.Tests.{lt-ltb, le-ltb, ne-eqb, ltb-true}
 use lib.Dec.{ltb}
 use lib.ListN.{length}
 use Rattle.families.specs.Families.{familyOf, nodeCount}
@@ -18,12 +18,12 @@ use Rattle.lists.proofs.Laws.{live-of-list, marks-of-live-nodes, list-outside-n
 use Rattle.boxes.specs.Box.{familyIn, kIn, blockLengthIn, namesIn, nodeCountIn, boxChecks}
 use Rattle.boxes.proofs.Answers.{by-page, by-tests, by-box, body-empty}
 use Rattle.boxes.proofs.Laws.{accepted-box}
-use Rattle.boxes.proofs.Proved.{body-claim, box-of-body-claim}
+use Rattle.boxes.proofs.Proved.{order-claim, body-claim, box-of-body-claim}
 use Rattle.repair.specs.declared.Session.{Session}
 use Rattle.repair.specs.declared.Started.{Started}
 use Rattle.repair.specs.Session.{sessionWith, refusedStart, started, nodeCountOf, noStart}
-use Rattle.repair.specs.Boxed.{checkedBox, listed}
-use Rattle.repair.specs.Claims.{StartClaim, FromStart, NoStartClaim, StartMarksClaim, WriteReadClaim, ReadKeepsClaim, ReadWriteClaim, ReadBodyClaim, WrittenBodyClaim, BoxStartClaim, RefusedBox, WrongCountClaim}
+use Rattle.repair.specs.Boxed.{checkedBox, readChecks, listed}
+use Rattle.repair.specs.Claims.{StartClaim, FromStart, NoStartClaim, StartMarksClaim, WriteReadClaim, ReadKeepsClaim, ReadWriteClaim, ReadBodyClaim, WrittenBodyClaim, BoxStartClaim, RefusedBox, WrongCountClaim, ReadOrderClaim}
 use Rattle.repair.proofs.Accepted.{start-accepted, check-accepted, read-accepted, write-accepted}
 use Rattle.repair.proofs.StartLaws.{known, start-0, no-start-marks, accepted-start}
 use Rattle.repair.proofs.ListedLaws.{place-there, place-before}
@@ -51,16 +51,16 @@ no-start-claim s size = (from, back)
         let marks = marks-of-live-nodes (nodeCountOf s) (s .live) size (few (familyOf (s .family)) (s .k) (g .range .blocks)) (g .inside) in
         record {
           list = liveNodes (s .live) (nodeCountOf s);
-          gives =
+          start-gives =
               rw (start-0 (s .family) (s .k) (s .len) (liveNodes (s .live) (nodeCountOf s)) (parameters-in (s .family) (s .k) (s .len) (g .range)) (l .outside) (l .rising))
               (ap (λ (live : List Bool). record { refusal = 0; session = sessionWith (s .family) (s .k) (s .len) live }) marks);
         }
 
     back : FromStart s → noStart s ≡ false
     back f =
-        let e = start-accepted (s .family) (s .k) (s .len) (f .list) (ap (λ (r : Started). r .refusal) (f .gives)) in
+        let e = start-accepted (s .family) (s .k) (s .len) (f .list) (ap (λ (r : Started). r .refusal) (f .start-gives)) in
         let a = accepted-start (s .family) (s .k) (s .len) (f .list) e in
-        let is : setLive noneLive (f .list) ≡ s .live = ap (λ (r : Started). r .session .live) (rw e at (f .gives)) in
+        let is : setLive noneLive (f .list) ≡ s .live = ap (λ (r : Started). r .session .live) (rw e at (f .start-gives)) in
         no-start-marks s (parameters-in (s .family) (s .k) (s .len) (a .range))
         ∙ ap (liveOutside (nodeCountOf s)) (sym is)
         ∙ list-outside-none (nodeCountOf s) (f .list) (few (familyOf (s .family)) (s .k) (a .range .blocks)) (a .outside)
@@ -147,6 +147,10 @@ refused-box bytes r b =
     }
 
 pub wrong-count-claim : WrongCountClaim
-wrong-count-claim bytes p other =
+wrong-count-claim bytes p =
     let page = by-page bytes (p .long) (parameters-in _ _ _ (p .range)) in
-    refused-box bytes 6 (page ∙ by-tests bytes (p .zeros) (ne-eqb _ _ other) refl)
+    (λ few other. refused-box bytes 6 (page ∙ by-tests bytes (p .zeros) (ne-eqb _ _ other) (le-ltb _ _ few)), λ many. refused-box bytes 8 (page ∙ by-tests bytes (p .zeros) refl (lt-ltb _ _ many)))
+
+pub read-order-claim : ReadOrderClaim
+unfolding readChecks
+read-order-claim bytes nodes = order-claim bytes .followed _

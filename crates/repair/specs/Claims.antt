@@ -1,21 +1,22 @@
 -- What is proved of sessions and boxes besides each operation's own equations; proofs/Proved.antt has the proofs.
 use mathlib.Core.Path.{_≡_}
-use mathlib.Core.Bool.{true, false}
-use mathlib.Core.List.{List, [], _++_}
+use mathlib.Core.Bool.{true, false, not}
+use mathlib.Core.List.{List, [], _∷_, _++_}
 use mathlib.Core.Logic.{_↔_}
 use Prim.Native.Nat.{ℕ, _*_, _≤_, _<_}
 use lib.ListN.{length, getD, take, drop}
+use lib.Dec.{eqb}
 use Rattle.families.specs.Families.{familyOf, nodeCount}
 use Rattle.blocks.specs.Blocks.{blockOf}
-use Rattle.checks.specs.Checks.{firstMet}
+use Rattle.checks.specs.Checks.{_gives_, firstMet}
 use Rattle.checks.specs.Claims.{InRange}
 use Rattle.lists.specs.Lists.{someOutside, rises, isIn, isLive}
-use Rattle.boxes.specs.Box.{familyIn, kIn, blockLengthIn, heldCountIn, namesIn, boxLength, bodyChecks, bodyOf}
+use Rattle.boxes.specs.Box.{familyIn, kIn, blockLengthIn, heldCountIn, namesIn, nodeCountIn, boxLength, bodyChecks, bodyOf}
 use Rattle.boxes.specs.Bodies.{boxOf}
-use Rattle.boxes.specs.Claims.{AcceptedBox, SoundHead, Named}
+use Rattle.boxes.specs.Claims.{AcceptedBox, SoundHead, oldBoxChecks, Changed, Named}
 use Rattle.repair.specs.declared.Session.{Session}
 use Rattle.repair.specs.Session.{sessionOf, acceptedStart, refusedStart, started, nodeCountOf, noStart}
-use Rattle.repair.specs.Boxed.{sessionIn, checkedBox, readBox, nodesRead, listed, writtenLength, written, outWritten}
+use Rattle.repair.specs.Boxed.{sessionIn, checkedBox, readChecks, readBox, nodesRead, listed, writtenLength, written, outWritten}
 
 -- ---- start
 
@@ -27,7 +28,7 @@ StartClaim = (family k L : ℕ) (list : List ℕ)
 -- some accepted start gives exactly this session
 pub record FromStart (s : Session) : Type 0 where
   pub list : List ℕ
-  pub gives : started (s .family) (s .k) (s .len) list ≡ acceptedStart s
+  pub start-gives : started (s .family) (s .k) (s .len) list ≡ acceptedStart s
 
 -- 13 is due exactly where no start gives the session
 abbrev pub NoStartClaim : Type 0
@@ -117,8 +118,12 @@ pub record RefusedBox (bytes : List ℕ) (number : ℕ) : Type 0 where
   pub read : (nodes : List ℕ) → (readBox bytes nodes ≡ refusedStart number) × (nodesRead bytes nodes ≡ nodes)
   pub body : (j : ℕ) → (firstMet (bodyChecks bytes j) ≡ number) × (bodyOf bytes j ≡ [])
 
--- a page that counts E nodes with a length for another number of them, or any other length, gives 7, before any number or body is
--- looked at
+-- of a box that passes 8: a length for another number of nodes, or any other wrong one, gives 7 where E is up to n; E above n gives 9
 abbrev pub WrongCountClaim : Type 0
 WrongCountClaim = (bytes : List ℕ) → SoundHead bytes
-    → (length bytes ≡ boxLength (heldCountIn bytes) (blockLengthIn bytes) → ⊥) → RefusedBox bytes 7
+    → (heldCountIn bytes ≤ nodeCountIn bytes → (length bytes ≡ boxLength (heldCountIn bytes) (blockLengthIn bytes) → ⊥) → RefusedBox bytes 7)
+    × (nodeCountIn bytes < heldCountIn bytes → RefusedBox bytes 9)
+
+-- what document 02, K12, changed for a read, which has 6 after the box's checks
+abbrev pub ReadOrderClaim : Type 0
+ReadOrderClaim = (bytes nodes : List ℕ) → Changed bytes (firstMet (readChecks bytes nodes)) (firstMet (oldBoxChecks bytes ++ ((not (eqb (length nodes) (nodeCountIn bytes * blockLengthIn bytes)) gives 6) ∷ [])))

@@ -3,7 +3,7 @@
 use mathlib.Core.Path.{_≡_, refl, sym, ap₂, _∙_}
 use mathlib.Core.Bool.{true}
 use mathlib.Core.List.{List}
-use Prim.Native.Nat.{ℕ, _+_, _*_, _<_}
+use Prim.Native.Nat.{ℕ, _+_, _*_, _≤_, _<_}
 use native.Mathlib.Nat.{mul-le-mul}
 use native.Mathlib.Omega.{arith}
 use borrow.Author.Tests.{lt-ltb, le-ltb, eq-eqb, ne-eqb, not-true, not-false}
@@ -44,28 +44,32 @@ zero : (c : tie.Else1) → zerosIn (box (c .before)) ≡ true
 zero c = sym (zeros-are (search)) ∙ not-false _ (c .if1 .left)
 
 returns-2 : tie.Need-returns-2
-returns-2 c = sym (by-tests (box (search)) (zero (search)) (ne-eqb _ _ (rw (full-is (search)) at (c .if2 .taken))) refl)
-
--- so is 7
-right : (c : tie.Else2) → let b = box (c .before .before) in length b ≡ boxLength (heldCountIn b) (blockLengthIn b)
-right c = c .if2 .left ∙ full-is (search)
-
-returns-3 : tie.Need-returns-3
-returns-3 c =
+returns-2 c =
     let n : tie.After-node-count = search in
     let h : tie.After-held-count = search in
     let b = box (search) in
-    sym (by-tests b (zero (search)) (eq-eqb _ _ (right (search))) (lt-ltb (nodeCountIn b) (heldCountIn b) (omega (arith, n .node-count .ensures, h .held-count .ensures, c .if3 .taken))))
+    sym (by-tests b (zero (search)) refl (lt-ltb (nodeCountIn b) (heldCountIn b) (omega (arith, n .node-count .ensures, h .held-count .ensures, c .if2 .taken))))
+
+-- so is 9
+up-to-n : (c : tie.Else2) → let b = box (c .before .before) in heldCountIn b ≤ nodeCountIn b
+up-to-n c =
+    let n : tie.After-node-count = search in
+    let h : tie.After-held-count = search in
+    omega (arith, n .node-count .ensures, h .held-count .ensures, c .if2 .left)
+
+returns-3 : tie.Need-returns-3
+returns-3 c = sym (by-tests (box (search)) (zero (search)) (ne-eqb _ _ (rw (full-is (search)) at (c .if3 .taken))) (le-ltb _ _ (up-to-n (search))))
+
+-- and 7
+right : (c : tie.Else3) → let b = box (c .before .before .before) in length b ≡ boxLength (heldCountIn b) (blockLengthIn b)
+right c = c .if3 .left ∙ full-is (search)
 
 returns-4 : tie.Need-returns-4
 returns-4 c =
     let n : tie.After-node-count = search in
-    let h : tie.After-held-count = search in
     let l : tie.After-names = search in
-    let i : tie.Else3 = search in
-    let b = box (search) in
     (rw (n .node-count .ensures, l .names .ensures) at (c .list-refusal .ensures))
-    ∙ sym (by-tests b (zero (search)) (eq-eqb _ _ (right (search))) (le-ltb (nodeCountIn b) (heldCountIn b) (omega (arith, n .node-count .ensures, h .held-count .ensures, i .if3 .left))))
+    ∙ sym (by-tests (box (search)) (zero (search)) (eq-eqb _ _ (right (search))) (le-ltb _ _ (up-to-n (search))))
 
 pub page-refusal-spec : {M : Type 1} → statement M
 page-refusal-spec =
