@@ -74,7 +74,7 @@ pub record Changed (bytes : List ℕ) (new old : ℕ) : Type 0 where
   pub same : (Miscounted bytes → ⊥) → new ≡ old
   pub only : (new ≡ old → ⊥) → Miscounted bytes
 
--- so of a box checked alone, of the body of a node, with 4 and 12 after the box's checks, and of any others that follow these
+-- so for a box checked alone, for a body, whose 4 and 12 come after the box's checks, and for whatever else comes after them
 pub record OrderClaims (bytes : List ℕ) : Type 0 where
   pub check : Changed bytes (firstMet (boxChecks bytes)) (firstMet (oldBoxChecks bytes))
   pub body : (j : ℕ) → Changed bytes (firstMet (bodyChecks bytes j)) (firstMet (oldBoxChecks bytes ++ ((outside 1 (nodeCountIn bytes) j gives 4) ∷ (not (isIn (namesIn bytes) j) gives 12) ∷ [])))
