@@ -1,7 +1,7 @@
-// Powers of two, lowest bits, bytes as numbers. The laws of numbers, bits and lists that every crate may cite stand in proofs/.
+// Powers of two, lowest bits and lengths in bits, bytes as numbers. The laws of numbers, bits and lists that every crate may cite stand in proofs/.
 ghost use mathlib.Core.Path.{_≡_};
-ghost use Prim.Native.Nat.{_^_, _<_};
-ghost use lib.Count.{trailingZeros};
+ghost use Prim.Native.Nat.{_-_, _^_, _<_};
+ghost use lib.Count.{trailingZeros, leadingZeros};
 
 // 2 to the power i.
 pub fn power(i: usize) -> usize
@@ -16,6 +16,13 @@ pub fn lowest_bit(x: usize) -> usize
     ensures { λ r. ⌜ r ≡ trailingZeros 64 x ⌝ }
 {
     usize::trailing_zeros(x) as usize
+}
+
+// How many bits x has, up to its highest set bit; 0 for x = 0.
+pub fn bit_length(x: usize) -> usize
+    ensures { λ r. ⌜ r ≡ 64 - leadingZeros 64 x ⌝ }
+{
+    64 - usize::leading_zeros(x) as usize
 }
 
 // A byte as a number.

@@ -1,14 +1,18 @@
 -- Weight-two: the nodes are the pairs a < b of the numbers 0 to k, each once, in document 01's order, for every k.
 -- Assumes nothing.
-use mathlib.Core.Path.{_≡_, refl, sym, ap, _∙_}
-use mathlib.Core.Bool.{cond}
+use mathlib.Core.Path.{_≡_, refl, sym, ap, ap₂, _∙_}
+use mathlib.Core.Bool.{Bool, true, cond}
 use Prim.Native.Nat.{ℕ, zero, suc, _+_, _-_, _*_, _/_, _^_, _≤_, _<_}
-use native.Mathlib.Nat.{zero-lt-suc, le-of-suc-le-suc, not-suc-le-zero, pow-suc, mul-div-cancel, zero-add, mul-add, mul-le-mul}
+use native.Mathlib.Numerals.{add-one}
+use native.Mathlib.Nat.{div-eq-of-lt, zero-lt-suc, le-of-suc-le-suc, not-suc-le-zero, pow-suc, mul-div-cancel, zero-add, mul-add, mul-le-mul}
 use native.Mathlib.Decide.{decLe, decLt}
 use native.Mathlib.Omega.{arith}
-use borrow.Author.Tests.{lt-ltb, le-ltb, le-leb, lt-leb}
-use lib.Dec.{ltb}
-use lib.Pow.{pow-lt, pow-pos, pow-mono}
+use borrow.Author.Tests.{lt-ltb, le-ltb, le-leb, lt-leb, leb-true, ltb-true}
+use lib.Count.{leadingZeros}
+use lib.Dec.{leb, ltb}
+use mir.Val.{boolByte}
+use lib.Pow.{pow-lt, pow-pos, pow-mono, pow-add, shl-shr}
+use Rattle.base.proofs.Tests.{allBelow, all-below}
 use Rattle.families.specs.Families.{pairAt, pairNode, nodeCount, columnOf}
 use Rattle.families.specs.Inner.{unit}
 use Rattle.families.specs.declared.Family.the-variants.{WeightTwo}
@@ -154,31 +158,12 @@ placed-column k a b h g =
     let p : Placed k a b = placed k a b h g in
     column-at k (suc (placeOf k a b)) (omega arith) (omega (arith, p .room, pair-count k)) ∙ rw (less-one (placeOf k a b), p .smaller, p .larger)
 
--- ---- the row of a place, as the code walks the rows
-
--- beyond a row of m pairs
-pub record NextRow (m place : ℕ) : Type 0 where
-  pub some : 1 ≤ m
-  pub within : place - m < pairs (m - 1)
-  pub smaller : smallerAt m place ≡ suc (smallerAt (m - 1) (place - m))
-  pub larger : largerAt m place ≡ suc (largerAt (m - 1) (place - m))
-
-pub next-row : (m place : ℕ) → m ≤ place → place < pairs m → NextRow m place
-next-row zero place h g = absurd (not-suc-le-zero g)
-next-row (suc m) place h g =
-    record {
-      some = omega arith;
-      within = rw (less-one m) (omega arith);
-      smaller = rw (less-one m) (smaller-far m place h);
-      larger = rw (less-one m) (larger-far m place h);
-    }
+-- ---- the next pair, as the code goes from pair to pair
 
 -- in a row of m pairs
 pub in-row : (m place : ℕ) → place < m → (smallerAt m place ≡ 0) × (largerAt m place ≡ suc place)
 in-row zero place h = absurd (not-suc-le-zero h)
 in-row (suc m) place h = (smaller-near m place h, larger-near m place h)
-
--- ---- the next pair, as the code goes from pair to pair
 
 place-right : (m a b : ℕ) → a < b → b < m → placeOf m a (suc b) ≡ suc (placeOf m a b)
 place-right zero a b h g = absurd (not-suc-le-zero g)
@@ -323,9 +308,9 @@ pair-of k j h g =
 
 -- ---- as the code works them out
 
-pub unit-of : (i r : ℕ) → (i ≡ 0 → ⊥) → r ≡ 2 ^ (i - 1) → r ≡ unit i
-unit-of zero r n e = absurd (n refl)
-unit-of (suc i) r n e = e ∙ ap (λ (x : ℕ). 2 ^ x) (less-one i)
+pub unit-half : (i : ℕ) → 2 ^ i / 2 ≡ unit i
+unit-half zero = refl
+unit-half (suc i) = omega (arith, pow-suc 2 i)
 
 pub unit-small : (i : ℕ) → i ≤ 22 → unit i ≤ 2 ^ 22
 unit-small zero h = omega arith
@@ -333,3 +318,112 @@ unit-small (suc i) h = pow-mono {j = 22} (omega arith)
 
 pub pair-product : (k i : ℕ) → k ≤ 22 → i ≤ 22 → (i - 1) * (2 * k - i) ≤ 968
 pair-product k i h g = mul-le-mul {n₂ = 22} {m₂ = 44} (omega arith) (omega arith)
+
+-- ---- a node's pair by its place from the last, as the code finds it
+
+-- the place is in the row after so many
+abbrev pub InRow : ℕ → ℕ → Type 0
+InRow place rows = (nodeCount WeightTwo rows ≤ place) × (place < nodeCount WeightTwo (rows + 1))
+
+-- the number of which the code takes the root, half its length in bits, twice Heron's mean from that power of 2, and the rows by it
+abbrev radicand : ℕ → ℕ
+radicand place = 4 * place + 1
+
+abbrev halfLength : ℕ → ℕ
+halfLength place = (64 - leadingZeros 64 (radicand place)) / 2
+
+abbrev twiceMean : ℕ → ℕ
+twiceMean place = radicand place / 2 ^ halfLength place + 2 ^ halfLength place
+
+abbrev estimate : ℕ → ℕ
+estimate place = 45 * twiceMean place / 128
+
+-- 1 where that is a row too many
+abbrev beyond : ℕ → ℕ
+beyond place = boolByte (ltb place (nodeCount WeightTwo (estimate place)))
+
+pub record Estimated (place : ℕ) : Type 0 where
+  pub small : twiceMean place ≤ 100
+  pub short : estimate place ≤ 22
+  pub some : beyond place ≤ estimate place
+  pub in-row : InRow place (estimate place - beyond place)
+
+-- each by one test that is computed at every place
+pub estimated : (place : ℕ) → place ≤ 252 → Estimated place
+unfolding allBelow leadingZeros nodeCount
+estimated place h =
+    record {
+      small = leb-true _ 100 (every (λ p. leb (twiceMean p) 100) refl);
+      short = leb-true _ 22 (every (λ p. leb (estimate p) 22) refl);
+      some = leb-true _ _ (every (λ p. leb (beyond p) (estimate p)) refl);
+      in-row = (
+        leb-true _ _ (every (λ p. leb (nodeCount WeightTwo (estimate p - beyond p)) p) refl),
+        ltb-true _ _ (every (λ p. ltb p (nodeCount WeightTwo (estimate p - beyond p + 1))) refl),
+      );
+    }
+  where
+    every : (test : ℕ → Bool) → allBelow test 253 ≡ true → test place ≡ true
+    every test t = all-below test 253 t place (omega arith)
+
+pairs-mono : (i m : ℕ) → i ≤ m → pairs i ≤ pairs m
+pairs-mono i zero h = let e : i ≡ 0 = omega arith in rw e (omega arith)
+pairs-mono i (suc m) h = go (decLe i m) (λ d. pairs-mono i m d)
+  where
+    go : Dec (i ≤ m) → (i ≤ m → pairs i ≤ pairs m) → pairs i ≤ pairs (suc m)
+    go (yes d) rest = omega (arith, rest d)
+    go (no d) rest = let e : i ≡ suc m = omega arith in rw e (omega arith)
+
+-- there are at most 253 places
+pub few-pairs : (k : ℕ) → k ≤ 22 → nodeCount WeightTwo k ≤ 253
+few-pairs k h = rw (pair-count k) (pairs-mono k 22 h)
+
+-- of a place among those of k numbers: it comes before the rows of k, and lies in its row
+pub record Placing (k place rows : ℕ) : Type 0 where
+  pub within : rows < k
+  pub in-row : place - nodeCount WeightTwo rows ≤ rows
+
+pub placing : (k place rows : ℕ) → place < nodeCount WeightTwo k → InRow place rows → Placing k place rows
+placing k place rows h i = record { within = go (decLt rows k); in-row = omega (arith, i .1, pair-count rows, pair-count (rows + 1), ap pairs (add-one rows)) }
+  where
+    go : Dec (rows < k) → rows < k
+    go (yes d) = d
+    go (no d) = absurd (omega (arith, i .0, pair-count k, pair-count rows, pairs-mono k rows (omega arith)))
+
+-- from the last, the pair of k − (rows + 1) and k − t is at place t of its row
+place-from-last : (k rows t : ℕ) → t ≤ rows → rows < k → suc (placeOf k (k - (rows + 1)) (k - t)) + (pairs rows + t) ≡ pairs k
+place-from-last zero rows t h g = absurd (omega arith)
+place-from-last (suc m) rows t h g = go (decLt rows m) (λ d. place-from-last m rows t h d)
+  where
+    go : Dec (rows < m) → (rows < m → suc (placeOf m (m - (rows + 1)) (m - t)) + (pairs rows + t) ≡ pairs m)
+        → suc (placeOf (suc m) (suc m - (rows + 1)) (suc m - t)) + (pairs rows + t) ≡ pairs (suc m)
+    go (yes d) rest =
+        let a : suc m - (rows + 1) ≡ suc (m - (rows + 1)) = omega arith in
+        let b : suc m - t - 1 ≡ m - t = omega arith in
+        rw (a, b) (omega (arith, rest d))
+    go (no d) rest =
+        let a : suc m - (rows + 1) ≡ 0 = omega arith in
+        let b : rows ≡ m = omega arith in
+        rw (a, b) (omega arith)
+
+-- the last data block's column moved down by i is that of the block i before it, and 0 where there is none
+unit-down : (m i : ℕ) → i ≤ suc m → 2 ^ m / 2 ^ i ≡ unit (suc m - i)
+unit-down m i h = go (decLe i m)
+  where
+    go : Dec (i ≤ m) → 2 ^ m / 2 ^ i ≡ unit (suc m - i)
+    go (yes d) =
+        let e : suc m - i ≡ suc (m - i) = omega arith in
+        let s : m ≡ m - i + i = omega arith in
+        rw e (ap (λ (x : ℕ). 2 ^ x / 2 ^ i) s ∙ rw (pow-add 2 (m - i) i) (shl-shr (2 ^ (m - i)) i))
+    go (no d) = let e : suc m - i ≡ 0 = omega arith in rw e (div-eq-of-lt (pow-lt (omega arith)))
+
+-- the column of the node at a place from the last
+pub column-from-last : (k place rows : ℕ) → place < nodeCount WeightTwo k → InRow place rows
+    → 2 ^ (k - 1) / 2 ^ (rows + 1) + 2 ^ (k - 1) / 2 ^ (place - nodeCount WeightTwo rows) ≡ columnOf WeightTwo k (nodeCount WeightTwo k - place)
+column-from-last zero place rows h i = absurd (not-suc-le-zero (placing zero place rows h i .within))
+column-from-last (suc m) place rows h i =
+    let k : ℕ = suc m in
+    let t : ℕ = place - nodeCount WeightTwo rows in
+    let p : Placing k place rows = placing k place rows h i in
+    let e : nodeCount WeightTwo k - place ≡ suc (placeOf k (k - (rows + 1)) (k - t)) = omega (arith, place-from-last k rows t (p .in-row) (p .within), i .0, pair-count k, pair-count rows) in
+    rw (less-one m, e, placed-column k (k - (rows + 1)) (k - t) (omega (arith, p .in-row, p .within)) (omega arith))
+    (ap₂ _+_ (unit-down m (rows + 1) (omega (arith, p .within))) (unit-down m t (omega (arith, p .in-row, p .within))))

@@ -22,32 +22,39 @@ pub fn count(k: usize) -> usize
     k * (k + 1) / 2
 }
 
-// The column of data block i alone; 0 for i = 0, no block.
+// The column of data block i alone; 0 for i = 0, no block. It asks no question: a block costs what no block does.
 fn unit_column(i: usize) -> usize
     requires { ⌜ i ≤ 22 ⌝ }
     ensures { λ r. ⌜ r ≡ unit i ⌝ }
 {
-    if i == 0 {
-        return 0;
-    }
-    base::power(i - 1)
+    base::power(i) >> 1
 }
 
-// Node j's column: the row of its smaller number is found, each row being one pair shorter than the row before.
+// How many rows end before a place, both counted back from the last node, the place from 0. Seen from there the rows of the smaller
+// numbers have 1, 2, 3 and so on pairs, whatever k is: r of them have r(r + 1)/2, so that there are about √(2 place), which is
+// √(4 place)/√2. The root is a step of Heron's method from a power of two, (x/2^half + 2^half)/2, and 45/128 is a little less than
+// 1/(2√2). The estimate is right or a row too many, which a comparison tells as a number: nothing branches.
+fn rows_before(place: usize) -> usize
+    requires { ⌜ place ≤ 252 ⌝ }
+    ensures { λ r. ⌜ (nodeCount WeightTwo r ≤ place) × (place < nodeCount WeightTwo (r + 1)) ⌝ }
+{
+    let x = 4 * place + 1;
+    let half = base::bit_length(x) / 2;
+    let rows = 45 * ((x >> half) + base::power(half)) / 128;
+    rows - (place < count(rows)) as usize
+}
+
+// Node j's column, by its place from the last. The numbers of its pair are k less its row and k less its place in the row, and a
+// number's column is data block k's moved down by as many: out of it for no block.
 pub fn column(k: usize, j: usize) -> usize
     requires { ⌜ KInRange WeightTwo k ⌝ }
     requires { ⌜ IsNode WeightTwo k j ⌝ }
     ensures { λ r. ⌜ r ≡ columnOf WeightTwo k j ⌝ }
 {
-    let mut smaller: usize = 0;
-    let mut row = k;
-    let mut place = j - 1;
-    while row <= place {
-        place -= row;
-        row -= 1;
-        smaller += 1;
-    }
-    unit_column(smaller) + unit_column(smaller + 1 + place)
+    let place = count(k) - j;
+    let rows = rows_before(place);
+    let last = base::power(k - 1);
+    (last >> (rows + 1)) + (last >> (place - count(rows)))
 }
 
 // The number of the pair i < j.

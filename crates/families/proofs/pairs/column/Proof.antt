@@ -1,67 +1,73 @@
--- `families::pairs::column` meets its contract: before each turn the node's pair is `smaller` beyond that at `place` of the
--- pairs whose first row has `row` of them.
+-- `families::pairs::column` meets its contract, by the node's place from the last.
 -- Assumes nothing.
-use mathlib.Core.Path.{_≡_, sym, ap₂, _∙_}
+use mathlib.Core.Path.{_≡_, _∙_, ap}
 use Prim.Native.Nat.{_+_, _-_, _<_}
-use native.Mathlib.Nat.{zero-add}
-use Rattle.families.proofs.PairLaws.{smallerAt, largerAt, pairs, pair-count, column-at, next-row, in-row, unit-small}
+use lib.Pow.{pow-mono, shr-le}
+use Rattle.families.specs.Families.{nodeCount, columnOf}
+use Rattle.families.specs.declared.Family.the-variants.{WeightTwo}
+use Rattle.families.proofs.PairLaws.{Placing, placing, column-from-last, few-pairs}
 use borrow.Author.Needs.{needs}
 use native.Mathlib.Omega.{arith}
 use Rattle.families.proofs.pairs.column.Statement.{statement}
 use Rattle.families.proofs.pairs.column.Tie as tie
 
-abbrev Inv-loop : tie.InvT-loop
-Inv-loop k j smaller₀ row₀ place₀ smaller row place = ((smaller + row ≡ k) × (place < pairs row)) × ((smallerAt k (j - 1) ≡ smaller + smallerAt row place) × (largerAt k (j - 1) ≡ smaller + largerAt row place))
+rows-before-requires : tie.Need-rows-before-requires
+rows-before-requires c κs = omega (arith, c .count .ensures, few-pairs (c .before .args .k) (c .before .pre .0 .most), c .before .pre .1 .first)
 
-abbrev μ-loop : tie.MeasureT-loop
-μ-loop k j smaller₀ row₀ place₀ smaller row place = row
+-- the place is one of k numbers' pairs
+place : (c : tie.After-count) → c .count .result - c .before .args .j < nodeCount WeightTwo (c .before .args .k)
+place c = omega (arith, c .count .ensures, c .before .pre .1 .first, c .before .pre .1 .last)
 
-loop-holds : tie.Need-loop-holds Inv-loop μ-loop
-loop-holds c = ((zero-add _, omega (arith, c .pre .1 .last, pair-count (c .args .k))), (sym (zero-add _), sym (zero-add _)))
+placed : (c : tie.After-rows-before) → Placing (c .before .before .args .k) (c .before .count .result - c .before .before .args .j) (c .rows-before .result)
+placed c = placing _ _ _ (place (c .before)) (c .rows-before .ensures)
 
-sub-row : tie.Need-sub-row Inv-loop μ-loop
-sub-row c = next-row (c .before .loop .row) (c .before .loop .place) (c .loop-test .taken) (c .before .loop .inv .0 .1) .some
+-- fewer than 22 rows come before it
+few : (c : tie.After-rows-before) → c .rows-before .result < 22
+few c = omega (arith, placed c .within, c .before .before .pre .0 .most)
 
-loop-less : tie.Need-loop-less Inv-loop μ-loop
-loop-less c = omega (arith, next-row (c .before .loop .row) (c .before .loop .place) (c .loop-test .taken) (c .before .loop .inv .0 .1) .some)
+add-result : tie.Need-add-result
+add-result c = omega (arith, few (c .before))
 
-loop-again : tie.Need-loop-again Inv-loop μ-loop
-loop-again c =
-    let l = c .before .loop in
-    let s = next-row (l .row) (l .place) (c .loop-test .taken) (l .inv .0 .1) in
-    ((omega (arith, s .some), s .within), (omega (arith, s .smaller), omega (arith, s .larger)))
+shr-result : tie.Need-shr-result
+shr-result c = omega (arith, few (c .before))
 
-add-result : tie.Need-add-result Inv-loop μ-loop
-add-result c =
-    let l = c .before .before .before .loop in
-    omega (arith, c .before .unit-column .ensures, c .unit-column2 .ensures, unit-small (l .smaller) (omega arith), unit-small (l .smaller + 1 + l .place) (omega arith))
+count-requires-2 : tie.Need-count-requires-2
+count-requires-2 c κs = omega (arith, few (c .before))
 
-returns : tie.Need-returns Inv-loop μ-loop
+shr-result-2 : tie.Need-shr-result-2
+shr-result-2 c = rw (c .count2 .ensures) (omega (arith, few (c .before .before), placed (c .before .before) .in-row))
+
+add-result-2 : tie.Need-add-result-2
+add-result-2 c =
+    let b = c .before .before .before in
+    omega (
+      arith,
+      c .before .power .ensures,
+      pow-mono {i = b .before .args .k - 1} {j = 21} (omega (arith, b .before .pre .0 .most)),
+      shr-le (c .before .power .result) (c .before .before .rows-before .result + 1),
+      shr-le (c .before .power .result) (b .count .result - b .before .args .j - c .count2 .result),
+    )
+
+returns : tie.Need-returns
 returns c =
-    let l = c .before .before .before .loop in
-    let b = c .before .before .before .before in
-    let k = b .args .k in
-    let j = b .args .j in
-    let i = in-row (l .row) (l .place) (c .before .before .loop-test .left) in
-    let s : smallerAt k (j - 1) ≡ l .smaller = omega (arith, i .0) in
-    let t : largerAt k (j - 1) ≡ l .smaller + 1 + l .place = omega (arith, i .1) in
-    ap₂ _+_ (c .before .unit-column .ensures) (c .unit-column2 .ensures) ∙ rw (column-at k j (b .pre .1 .first) (b .pre .1 .last), s, t)
+    let b = c .before .before .before in
+    let k = b .before .args .k in
+    let e : nodeCount WeightTwo k - (b .count .result - b .before .args .j) ≡ b .before .args .j = omega (arith, b .count .ensures, b .before .pre .1 .last) in
+    rw (c .before .power .ensures, c .count2 .ensures) (column-from-last k _ _ (place b) (c .before .before .rows-before .ensures)) ∙ ap (columnOf WeightTwo k) e
 
 pub column-spec : {M : Type 1} → statement M
 column-spec =
     tie.close
     (tie.spec
-    Inv-loop
-    μ-loop
+    (λ c κs. search needs)
     (λ c. search needs)
-    loop-holds
-    sub-row
-    (λ c. omega arith)
-    loop-less
-    loop-again
-    (λ c κs. omega arith)
-    (λ c. omega arith)
-    (λ c. omega arith)
-    (λ c κs. omega arith)
+    rows-before-requires
+    (λ c. search needs)
+    (λ c κs. search needs)
     add-result
+    shr-result
+    count-requires-2
+    (λ c. search needs)
+    shr-result-2
+    add-result-2
     returns)
