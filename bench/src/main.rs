@@ -1,9 +1,11 @@
-//! Encoding, boxes, plans and runs, timed against other ways to fill the same buffers; with `--count`, the instructions of
-//! one call of each.
+//! Encoding, boxes, plans, runs and relations, timed against other ways to fill the same buffers; with `--count`, the
+//! instructions of one call of each; with `--related`, what a relation takes for every triple of weight-two 22.
 mod boxes;
+mod callgrind;
 mod counting;
 mod encoding;
 mod isal;
+mod relations;
 mod repairs;
 mod rivals;
 mod table;
@@ -22,30 +24,34 @@ fn main() -> io::Result<()> {
             let counts = counting::counts()?;
             print_counts(&tables(Meter::Counted(counts.into_iter())));
         }
+        ["--related"] => relations::print_each()?,
         [counting::ONCE] => drop(tables(Meter::Once)),
+        [relations::EACH_ONCE] => relations::call_each_once(),
         _ => {
-            eprintln!("usage: bash bench/run [--count]");
+            eprintln!("usage: bash bench/run [--count | --related]");
             process::exit(2);
         }
     }
     Ok(())
 }
 
-fn tables(mut meter: Meter) -> [Table; 5] {
+fn tables(mut meter: Meter) -> [Table; 6] {
     let mut random = Random::seeded();
     let [read, write] = boxes::tables(&mut random, &mut meter);
     let encode = encoding::table(&mut random, &mut meter);
     let plan = repairs::plans(&mut meter);
     let run = repairs::runs(&mut random, &mut meter);
-    [encode, read, write, plan, run]
+    let relate = relations::table(&mut random, &mut meter);
+    [encode, read, write, plan, run, relate]
 }
 
 fn print_times(tables: &[Table]) {
     println!("all ways gave the same bytes; times in microseconds, {ROUNDS} repetitions by turns");
+    println!("({} of a million relations)", relations::ROUNDS);
     println!("\nmedians");
-    tables.iter().for_each(|table| table.print(ROUNDS / 2));
+    tables.iter().for_each(|table| table.print(2));
     println!("\nthe fastest tenth, which other work on the machine disturbs less");
-    tables.iter().for_each(|table| table.print(ROUNDS / 10));
+    tables.iter().for_each(|table| table.print(10));
 }
 
 fn print_counts(tables: &[Table]) {

@@ -1,5 +1,5 @@
 //! The library's work in safe Rust: encoding and repairs, with a block XOR of the caller's choice, the bodies
-//! of a box, and planning. Which blocks go where is worked out beforehand, so that a rival's time is that of the
+//! of a box, planning, and relations. Which blocks go where is worked out beforehand, so that a rival's time is that of the
 //! blocks alone; a planner works out all of it in the call.
 use std::fmt::Display;
 
@@ -152,6 +152,30 @@ pub fn plan(family: Family, k: usize, live: &[u8; 256], out: &mut [u8]) -> [usiz
     out[..steps.len()].copy_from_slice(&steps);
     let left = live[1..=planner.n].iter().filter(|&&live| !live).count();
     [steps.len() / 4, rounds, left]
+}
+
+/// The column of a weight-two node, by branches: a data block is told from a pair, and a pair's row is looked for.
+fn pair_column(k: usize, node: usize) -> usize {
+    if node <= k {
+        return 1 << (node - 1);
+    }
+    let (mut i, mut place) = (0, node - k - 1);
+    while k - 1 - i <= place {
+        place -= k - 1 - i;
+        i += 1;
+    }
+    (1 << i) | (1 << (i + 1 + place))
+}
+
+/// Whether three weight-two nodes are related, a call of its own as the library's is.
+#[inline(never)]
+pub fn related(k: usize, nodes: [usize; 3]) -> bool {
+    let n = k * (k + 1) / 2;
+    if nodes.iter().any(|node| !(1..=n).contains(node)) {
+        return false;
+    }
+    let [a, b, c] = nodes.map(|node| pair_column(k, node));
+    a ^ b ^ c == 0
 }
 
 /// Makes a plan's steps, four bytes each (round, node, smaller, larger), in the nodes buffer, with XORs by `xor`.

@@ -16,9 +16,11 @@ pub struct Line {
 }
 
 impl Line {
-    /// The times at a place in microseconds, and the library's as ratios to the others, each with its goal.
-    fn text(&self, place: usize) -> String {
-        let times: Vec<f64> = self.measured.iter().map(|of_way| of_way[place]).collect();
+    /// The time in microseconds that one in so many repetitions did not reach, and the library's as ratios to the others,
+    /// each with its goal.
+    fn text(&self, one_in: usize) -> String {
+        let time = |of_way: &Vec<f64>| of_way[of_way.len() / one_in];
+        let times: Vec<f64> = self.measured.iter().map(time).collect();
         let mut text = format!("{:<22}", self.name);
         for time in &times {
             text += &format!(" {time:>9.2}");
@@ -34,7 +36,7 @@ impl Line {
 }
 
 impl Table {
-    pub fn print(&self, place: usize) {
+    pub fn print(&self, one_in: usize) {
         let mut head = format!("{:<22}", self.title);
         for way in self.ways {
             head += &format!(" {way:>9}");
@@ -44,7 +46,7 @@ impl Table {
         }
         println!("{}", head.trim_end());
         for line in &self.lines {
-            println!("{}", line.text(place));
+            println!("{}", line.text(one_in));
         }
     }
 

@@ -63,6 +63,19 @@ impl Meter {
         expected: &[u8],
         from: usize,
     ) -> Vec<Vec<f64>> {
+        self.compare_in_rounds(ROUNDS, ways, source, filled, expected, from)
+    }
+
+    /// The same with so many repetitions.
+    pub fn compare_in_rounds(
+        &mut self,
+        rounds: usize,
+        ways: &[Way],
+        source: &[u8],
+        filled: &mut Aligned,
+        expected: &[u8],
+        from: usize,
+    ) -> Vec<Vec<f64>> {
         let filled = filled.bytes_mut();
         let before = filled.to_vec();
         for (i, way) in ways.iter().enumerate() {
@@ -72,7 +85,7 @@ impl Meter {
             assert!(same, "way {} gives other bytes", i + 1);
         }
         match self {
-            Meter::Clock => measure(ways, source, filled),
+            Meter::Clock => measure(rounds, ways, source, filled),
             Meter::Once => {
                 ways.iter()
                     .for_each(|way| count_this_call(way, source, filled));
@@ -95,9 +108,9 @@ fn count_this_call(way: Way, source: &[u8], filled: &mut [u8]) {
 
 /// The ways take turns, and each round begins with another, so that what slows the machine down slows all of
 /// them.
-fn measure(ways: &[Way], source: &[u8], filled: &mut [u8]) -> Vec<Vec<f64>> {
-    let mut times = vec![Vec::with_capacity(ROUNDS); ways.len()];
-    for round in 0..ROUNDS {
+fn measure(rounds: usize, ways: &[Way], source: &[u8], filled: &mut [u8]) -> Vec<Vec<f64>> {
+    let mut times = vec![Vec::with_capacity(rounds); ways.len()];
+    for round in 0..rounds {
         for turn in 0..ways.len() {
             let i = (round + turn) % ways.len();
             times[i].push(time(ways[i], source, filled));

@@ -1,7 +1,7 @@
 -- Weight-two: the nodes are the pairs a < b of the numbers 0 to k, each once, in document 01's order, for every k.
 -- Assumes nothing.
 use mathlib.Core.Path.{_≡_, refl, sym, ap, ap₂, _∙_}
-use mathlib.Core.Bool.{Bool, true, cond}
+use mathlib.Core.Bool.{Bool, true, cond, _&&_}
 use Prim.Native.Nat.{ℕ, zero, suc, _+_, _-_, _*_, _/_, _^_, _≤_, _<_}
 use native.Mathlib.Numerals.{add-one}
 use native.Mathlib.Nat.{div-eq-of-lt, zero-lt-suc, le-of-suc-le-suc, not-suc-le-zero, pow-suc, mul-div-cancel, zero-add, mul-add, mul-le-mul}
@@ -12,7 +12,7 @@ use lib.Count.{leadingZeros}
 use lib.Dec.{leb, ltb}
 use mir.Val.{boolByte}
 use lib.Pow.{pow-lt, pow-pos, pow-mono, pow-add, shl-shr}
-use Rattle.base.proofs.Tests.{allBelow, all-below}
+use Rattle.base.proofs.Tests.{and-left, and-right, allBelow, all-below}
 use Rattle.families.specs.Families.{pairAt, pairNode, nodeCount, columnOf}
 use Rattle.families.specs.Inner.{unit}
 use Rattle.families.specs.declared.Family.the-variants.{WeightTwo}
@@ -325,7 +325,7 @@ pair-product k i h g = mul-le-mul {n₂ = 22} {m₂ = 44} (omega arith) (omega a
 abbrev pub InRow : ℕ → ℕ → Type 0
 InRow place rows = (nodeCount WeightTwo rows ≤ place) × (place < nodeCount WeightTwo (rows + 1))
 
--- the number of which the code takes the root, half its length in bits, twice Heron's mean from that power of 2, and the rows by it
+-- the number of which the code takes the root, half its length in bits, and twice Heron's mean from that power of 2
 abbrev radicand : ℕ → ℕ
 radicand place = 4 * place + 1
 
@@ -335,35 +335,43 @@ halfLength place = (64 - leadingZeros 64 (radicand place)) / 2
 abbrev twiceMean : ℕ → ℕ
 twiceMean place = radicand place / 2 ^ halfLength place + 2 ^ halfLength place
 
-abbrev estimate : ℕ → ℕ
-estimate place = 45 * twiceMean place / 128
+-- so many 128ths of it are the rows, and 1 where that is a row too many
+abbrev estimate : ℕ → ℕ → ℕ
+estimate part place = part * twiceMean place / 128
 
--- 1 where that is a row too many
-abbrev beyond : ℕ → ℕ
-beyond place = boolByte (ltb place (nodeCount WeightTwo (estimate place)))
+abbrev beyond : ℕ → ℕ → ℕ
+beyond part place = boolByte (ltb place (nodeCount WeightTwo (estimate part place)))
 
-pub record Estimated (place : ℕ) : Type 0 where
-  pub small : twiceMean place ≤ 100
-  pub short : estimate place ≤ 22
-  pub some : beyond place ≤ estimate place
-  pub in-row : InRow place (estimate place - beyond place)
+-- what the code needs of the part, at a place
+abbrev fits : ℕ → ℕ → Bool
+fits part place = leb (estimate part place) 22 && leb (beyond part place) (estimate part place)
 
--- each by one test that is computed at every place
-pub estimated : (place : ℕ) → place ≤ 252 → Estimated place
-unfolding allBelow leadingZeros nodeCount
-estimated place h =
-    record {
-      small = leb-true _ 100 (every (λ p. leb (twiceMean p) 100) refl);
-      short = leb-true _ 22 (every (λ p. leb (estimate p) 22) refl);
-      some = leb-true _ _ (every (λ p. leb (beyond p) (estimate p)) refl);
-      in-row = (
-        leb-true _ _ (every (λ p. leb (nodeCount WeightTwo (estimate p - beyond p)) p) refl),
-        ltb-true _ _ (every (λ p. ltb p (nodeCount WeightTwo (estimate p - beyond p + 1))) refl),
-      );
-    }
-  where
-    every : (test : ℕ → Bool) → allBelow test 253 ≡ true → test place ≡ true
-    every test t = all-below test 253 t place (omega arith)
+abbrev stands : ℕ → ℕ → Bool
+stands part place = leb (nodeCount WeightTwo (estimate part place - beyond part place)) place && ltb place (nodeCount WeightTwo (estimate part place - beyond part place + 1))
+
+abbrev pub rowTest : ℕ → ℕ → Bool
+rowTest part place = fits part place && stands part place
+
+pub mean-small : (place : ℕ) → place ≤ 252 → twiceMean place ≤ 100
+unfolding allBelow leadingZeros
+mean-small place h = leb-true _ 100 (all-below (λ p. leb (twiceMean p) 100) 253 refl place (omega arith))
+
+-- where it has that at every place, by one computed test
+module _ (part : ℕ) (every : allBelow (rowTest part) 253 ≡ true) (place : ℕ) (h : place ≤ 252) where
+  fit : fits part place ≡ true
+  fit = and-left (fits part place) (stands part place) (all-below (rowTest part) 253 every place (omega arith))
+
+  stand : stands part place ≡ true
+  stand = and-right (fits part place) (stands part place) (all-below (rowTest part) 253 every place (omega arith))
+
+  pub estimate-short : estimate part place ≤ 22
+  estimate-short = leb-true _ 22 (and-left (leb (estimate part place) 22) (leb (beyond part place) (estimate part place)) fit)
+
+  pub estimate-some : beyond part place ≤ estimate part place
+  estimate-some = leb-true _ _ (and-right (leb (estimate part place) 22) (leb (beyond part place) (estimate part place)) fit)
+
+  pub estimate-in-row : InRow place (estimate part place - beyond part place)
+  estimate-in-row = (leb-true _ _ (and-left _ (ltb place (nodeCount WeightTwo (estimate part place - beyond part place + 1))) stand), ltb-true _ _ (and-right (leb (nodeCount WeightTwo (estimate part place - beyond part place)) place) _ stand))
 
 pairs-mono : (i m : ℕ) → i ≤ m → pairs i ≤ pairs m
 pairs-mono i zero h = let e : i ≡ 0 = omega arith in rw e (omega arith)

@@ -1,29 +1,32 @@
--- `families::pairs::rows_before` meets its contract, by what is computed at every place.
+-- `families::pairs::rows_before` meets its contract, by one test that is computed at every place.
 -- Assumes nothing.
-use Rattle.families.proofs.PairLaws.{Estimated, estimated}
+use mathlib.Core.Path.{refl}
+use lib.Count.{leadingZeros}
+use Rattle.base.proofs.Tests.{allBelow}
+use Rattle.families.specs.Families.{nodeCount}
+use Rattle.families.proofs.PairLaws.{mean-small, estimate-short, estimate-some, estimate-in-row}
 use borrow.Author.Needs.{needs}
 use native.Mathlib.Omega.{arith}
 use Rattle.families.proofs.pairs.rows_before.Statement.{statement}
 use Rattle.families.proofs.pairs.rows_before.Tie as tie
 
--- of the call's place
-known : (c : tie.Start) → Estimated (c .args .place)
-known c = estimated (c .args .place) (c .pre)
-
 add-rows : tie.Need-add-rows
-add-rows c = rw (c .power .ensures, c .before .bit-length .ensures) (omega (arith, known (c .before .before) .small))
+add-rows c = rw (c .power .ensures, c .before .bit-length .ensures) (omega (arith, mean-small (c .before .before .args .place) (c .before .before .pre)))
 
 mul-rows : tie.Need-mul-rows
-mul-rows c = rw (c .power .ensures, c .before .bit-length .ensures) (omega (arith, known (c .before .before) .small))
+mul-rows c = rw (c .power .ensures, c .before .bit-length .ensures) (omega (arith, mean-small (c .before .before .args .place) (c .before .before .pre)))
 
 count-requires : tie.Need-count-requires
-count-requires c κs = rw (c .power .ensures, c .before .bit-length .ensures) (known (c .before .before) .short)
+unfolding allBelow leadingZeros nodeCount
+count-requires c κs = rw (c .power .ensures, c .before .bit-length .ensures) (estimate-short _ refl _ (c .before .before .pre))
 
 sub-result : tie.Need-sub-result
-sub-result c = rw (c .count .ensures, c .before .power .ensures, c .before .before .bit-length .ensures) (known (c .before .before .before) .some)
+unfolding allBelow leadingZeros nodeCount
+sub-result c = rw (c .count .ensures, c .before .power .ensures, c .before .before .bit-length .ensures) (estimate-some _ refl _ (c .before .before .before .pre))
 
 returns : tie.Need-returns
-returns c = rw (c .count .ensures, c .before .power .ensures, c .before .before .bit-length .ensures) (known (c .before .before .before) .in-row)
+unfolding allBelow leadingZeros nodeCount
+returns c = rw (c .count .ensures, c .before .power .ensures, c .before .before .bit-length .ensures) (estimate-in-row _ refl _ (c .before .before .before .pre))
 
 pub rows-before-spec : {M : Type 1} → statement M
 rows-before-spec =
