@@ -35,14 +35,15 @@ fn main() -> io::Result<()> {
     Ok(())
 }
 
-fn tables(mut meter: Meter) -> [Table; 6] {
+fn tables(mut meter: Meter) -> [Table; 7] {
     let mut random = Random::seeded();
     let [read, write] = boxes::tables(&mut random, &mut meter);
     let encode = encoding::table(&mut random, &mut meter);
     let plan = repairs::plans(&mut meter);
     let run = repairs::runs(&mut random, &mut meter);
+    let step = repairs::steps(&mut random, &mut meter);
     let relate = relations::table(&mut random, &mut meter);
-    [encode, read, write, plan, run, relate]
+    [encode, read, write, plan, run, step, relate]
 }
 
 fn print_times(tables: &[Table]) {

@@ -1,5 +1,5 @@
-//! Planning, timed against the same search in Rust, and runs, timed against the same XORs in Rust and by ISA-L, and
-//! against Rust that plans them first, as a run does.
+//! Planning, timed against the same search in Rust, runs, timed against the same XORs in Rust and by ISA-L, and
+//! against Rust that plans them first, as a run does, and steps, timed against Rust that makes the same checks.
 use crate::isal;
 use crate::rivals::{self, Family};
 use crate::table::{Line, Table};
@@ -146,5 +146,81 @@ pub fn runs(random: &mut Random, meter: &mut Meter) -> Table {
         lines: cases
             .map(|(len, goals)| run(len, goals, random, meter))
             .into(),
+    }
+}
+
+/// Every way to repair a node of weight-two 22 from two others, as node, first and second: those of two data blocks and
+/// their pair, or those of three pairs.
+fn repairs(with_data: bool) -> Vec<[usize; 3]> {
+    let columns = code(2, K).columns();
+    let n = columns.len();
+    let node_of = |column: usize| columns.iter().position(|&c| c == column).map(|i| i + 1);
+    let pairs = (1..=n).flat_map(|a| (a + 1..=n).map(move |b| [a, b]));
+    let triples = pairs.filter_map(|[a, b]| {
+        let node = node_of(columns[a - 1] ^ columns[b - 1])?;
+        Some([node, a, b])
+    });
+    triples
+        .filter(|triple| triple.iter().any(|&node| node <= K) == with_data)
+        .collect()
+}
+
+const K: usize = 22;
+
+/// Steps that repair blocks of an object, each in a session in which its node alone is missing.
+fn step(word: &str, with_data: bool, random: &mut Random, meter: &mut Meter) -> Line {
+    let (family, len) = (Family::WeightTwo, 64);
+    let shape = Shape {
+        family: family as usize,
+        k: K,
+        len,
+    };
+    let all = shape.all_nodes();
+    let without = |node: usize| {
+        let live = all.iter().copied().filter(|&n| usize::from(n) != node);
+        shape.session(&live.collect::<Vec<u8>>())
+    };
+    let sessions: Vec<_> = (0..=shape.n()).map(without).collect();
+    let handed_in: Vec<_> = sessions.iter().copied().map(handed_in).collect();
+    let repairs = repairs(with_data);
+    let object = random.bytes(K * len);
+    let mut nodes = Aligned::holding(&code(family as usize, K).multiply(len, &object));
+    let expected = nodes.bytes().to_vec();
+    let mogtriz = |_: &[u8], nodes: &mut [u8]| {
+        for &[node, first, second] in &repairs {
+            let stepped = handed_in[node].clone().step(nodes, node, [first, second]);
+            stepped.expect("a sound step");
+        }
+    };
+    let rust = |_: &[u8], nodes: &mut [u8]| {
+        for &triple in &repairs {
+            assert!(rivals::step(
+                K,
+                len,
+                &sessions[triple[0]].live,
+                nodes,
+                triple
+            ));
+        }
+    };
+    let ways: [Way; 2] = [&mogtriz, &rust];
+    Line {
+        name: family.name(K, word),
+        goals: vec![None],
+        measured: meter.compare_in_rounds(STEP_ROUNDS, &ways, &[], &mut nodes, &expected, 0),
+    }
+}
+
+/// Repetitions of some hundred or thousand steps.
+const STEP_ROUNDS: usize = 101;
+
+pub fn steps(random: &mut Random, meter: &mut Meter) -> Table {
+    Table {
+        title: "all steps, L 64",
+        ways: &["Mogtriz", "Rust"],
+        lines: vec![
+            step("data", true, random, meter),
+            step("pairs", false, random, meter),
+        ],
     }
 }

@@ -178,6 +178,25 @@ pub fn related(k: usize, nodes: [usize; 3]) -> bool {
     a ^ b ^ c == 0
 }
 
+/// Repairs a weight-two node from two others, if they are related, it is missing and they are live.
+pub fn step(
+    k: usize,
+    len: usize,
+    live: &[u8; 256],
+    nodes: &mut [u8],
+    [node, first, second]: [usize; 3],
+) -> bool {
+    let n = k * (k + 1) / 2;
+    if nodes.len() != n * len || !related(k, [node, first, second]) {
+        return false;
+    }
+    if live[node] == 1 || live[first] == 0 || live[second] == 0 {
+        return false;
+    }
+    repair(&[1, node as u8, first as u8, second as u8], len, nodes, xor);
+    true
+}
+
 /// Makes a plan's steps, four bytes each (round, node, smaller, larger), in the nodes buffer, with XORs by `xor`.
 pub fn repair(steps: &[u8], len: usize, nodes: &mut [u8], xor: impl Fn(&mut [u8], &[u8], &[u8])) {
     for step in steps.chunks_exact(4) {

@@ -1,6 +1,6 @@
 //! The families over every k: node counts, columns, their inverse, and which nodes are related.
 use compare::library;
-use compare::papers::{Code, FAMILIES, every_code, node_count, range_of_k};
+use compare::papers::{Code, FAMILIES, code, every_code, node_count, range_of_k};
 use compare::random::Random;
 use mogtriz::raw;
 
@@ -211,4 +211,28 @@ fn related_nodes_are_those_whose_columns_cancel() {
     let [others, related] = triples.0;
     println!("{related} related triples, {others} others");
     assert!(related > 0 && others > 0);
+}
+
+#[test]
+fn every_triple_of_weight_two_nodes() {
+    let mut counts = [0; 2];
+    for code in range_of_k(2).expect("a known family").map(|k| code(2, k)) {
+        let columns = code.columns();
+        let n = columns.len();
+        for a in 1..=n {
+            for b in 1..=n {
+                for c in 1..=n {
+                    let expected = columns[a - 1] ^ columns[b - 1] ^ columns[c - 1] == 0;
+                    let related = library::related(2, code.k, [a, b, c]);
+                    assert_eq!(related, u8::from(expected), "k {} {a}, {b}, {c}", code.k);
+                    counts[usize::from(expected)] += 1;
+                }
+            }
+        }
+    }
+    let [others, related] = counts;
+    println!("{related} related triples of weight-two nodes, {others} others");
+    // two data blocks and their pair, or the three pairs of three data blocks, in each order
+    let lines = |k: usize| k * (k - 1) / 2 + k * (k - 1) * (k - 2) / 6;
+    assert_eq!(related, (2..=22).map(|k| 6 * lines(k)).sum::<usize>());
 }
