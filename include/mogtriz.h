@@ -154,8 +154,8 @@ size_t mogtriz_column(size_t family, size_t k, size_t node);
 size_t mogtriz_node_of_column(size_t family, size_t k, size_t column);
 
 /*
- * 1 where a, b and c are nodes and the XOR of their columns is 0, so that each one's block is the XOR of the two
- * others'; else 0.
+ * 1 where a, b and c are nodes and related: the XOR of their columns is 0, so that each one's block is the XOR of the
+ * two others'. Else 0, as where two of them are equal or the family, k or one of them is out of range.
  */
 uint8_t mogtriz_related(size_t family, size_t k, size_t a, size_t b, size_t c);
 

@@ -1,4 +1,5 @@
 //! What callgrind writes down of this program.
+use std::collections::BTreeMap;
 use std::path::Path;
 use std::process::Command;
 use std::{env, fs, io};
@@ -54,23 +55,63 @@ impl Dump {
         total.map_or(0, |number| number.parse().expect("a number"))
     }
 
-    /// The conditional jumps that were taken at all: how often each was, and how often it was come to.
-    fn jumps(&self) -> impl Iterator<Item = [usize; 2]> {
-        let jumps = self.0.lines().filter_map(|line| line.strip_prefix("jcnd="));
-        jumps.map(|jump| {
-            let counts = jump.split_whitespace().next().expect("counts");
-            let (taken, come_to) = counts.split_once('/').expect("two counts");
-            [taken, come_to].map(|count| count.parse().expect("a number"))
-        })
+    /// How often each conditional jump was taken. Callgrind writes `jcnd=`, how often, a slash and how often it was come to, and
+    /// in the next line its address, or how far that lies beyond the last one; of a jump that was never taken it writes nothing.
+    pub fn jumps(&self) -> Jumps {
+        let mut jumps = Jumps::default();
+        let mut address = 0;
+        let mut taken = None;
+        for line in self.0.lines() {
+            if let Some(jump) = line.strip_prefix("jcnd=") {
+                let (count, _) = jump.split_once('/').expect("two counts");
+                taken = Some(count.parse().expect("a number"));
+            } else if let Some(next) = address_after(address, line) {
+                address = next;
+                jumps.add(address, taken.take().unwrap_or(0));
+            }
+        }
+        jumps
+    }
+}
+
+/// The address of a line with counts, from that of the one before; `None` for any other line.
+fn address_after(before: usize, line: &str) -> Option<usize> {
+    let word = line.split_whitespace().next()?;
+    let distance = || word[1..].parse::<usize>().expect("a distance");
+    match word.as_bytes()[0] {
+        b'0' => usize::from_str_radix(word.strip_prefix("0x")?, 16).ok(),
+        b'+' => Some(before + distance()),
+        b'-' => Some(before - distance()),
+        b'*' => Some(before),
+        _ => None,
+    }
+}
+
+/// How often each conditional jump was taken, by its address.
+#[derive(Default)]
+pub struct Jumps(BTreeMap<usize, usize>);
+
+impl Jumps {
+    fn add(&mut self, address: usize, taken: usize) {
+        if taken > 0 {
+            *self.0.entry(address).or_default() += taken;
+        }
     }
 
-    /// How often a conditional jump was taken.
+    pub fn sum<'a>(parts: impl Iterator<Item = &'a Jumps>) -> Jumps {
+        let mut sum = Jumps::default();
+        parts
+            .flat_map(|part| &part.0)
+            .for_each(|(&address, &taken)| sum.add(address, taken));
+        sum
+    }
+
     pub fn taken(&self) -> usize {
-        self.jumps().map(|[taken, _]| taken).sum()
+        self.0.values().sum()
     }
 
-    /// Whether each of them was taken every time or never.
-    pub fn jumps_go_one_way(&self) -> bool {
-        self.jumps().all(|[taken, come_to]| taken == come_to)
+    /// Whether each was taken once in every call or never.
+    pub fn go_one_way(&self, calls: usize) -> bool {
+        self.0.values().all(|&taken| taken == calls)
     }
 }

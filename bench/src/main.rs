@@ -47,8 +47,9 @@ fn tables(mut meter: Meter) -> [Table; 7] {
 }
 
 fn print_times(tables: &[Table]) {
-    println!("all ways gave the same bytes; times in microseconds, {ROUNDS} repetitions by turns");
-    println!("({} of a million relations)", relations::ROUNDS);
+    println!("all ways gave the same bytes; times in microseconds, {ROUNDS} repetitions by turns,");
+    let (steps, relations) = (repairs::STEP_ROUNDS, relations::ROUNDS);
+    println!("{steps} of all steps and {relations} of a million relations");
     println!("\nmedians");
     tables.iter().for_each(|table| table.print(2));
     println!("\nthe fastest tenth, which other work on the machine disturbs less");

@@ -1,6 +1,6 @@
 //! The relation of three weight-two nodes: a million triples, timed against Rust with branches, and the instructions and
 //! conditional jumps of every triple and of every column, by callgrind.
-use crate::callgrind::{self, Dump};
+use crate::callgrind::{self, Dump, Jumps};
 use crate::rivals::{self, Family};
 use crate::table::{Line, Table};
 use crate::timing::{Aligned, Meter, Way};
@@ -33,6 +33,14 @@ impl Mix {
         }
     }
 
+    fn has(self, node: usize) -> bool {
+        match self {
+            Mix::Data => node <= K,
+            Mix::Pairs => node > K,
+            Mix::Both => true,
+        }
+    }
+
     fn node(self, n: usize, random: &mut Random) -> usize {
         match self {
             Mix::Data => 1 + random.below(K),
@@ -43,20 +51,20 @@ impl Mix {
     }
 }
 
-/// Triples one after the other, a byte for each number. Every second one is related where the mix has such a third node.
+/// Triples one after the other, a byte for each number. Every second triple is related if the mix has a third node for its
+/// first two.
 fn triples(mix: Mix, code: &Code, random: &mut Random) -> Vec<u8> {
     let columns = code.columns();
+    let n = columns.len();
+    let mut node_of = vec![None; 1 << K];
+    for (i, &column) in columns.iter().enumerate() {
+        node_of[column] = Some(i + 1).filter(|&node| mix.has(node));
+    }
     let mut bytes = Vec::with_capacity(3 * TRIPLES);
     for i in 0..TRIPLES {
-        let [a, b, other] = [(); 3].map(|()| mix.node(code.n(), random));
-        let sum = columns[a - 1] ^ columns[b - 1];
-        let third = columns.iter().position(|&column| column == sum);
-        let third = third.map(|place| place + 1).filter(|_| i % 2 == 0);
-        let c = match (mix, third) {
-            (Mix::Both, Some(third)) => third,
-            (Mix::Pairs, Some(third)) if third > K => third,
-            _ => other,
-        };
+        let [a, b, other] = [(); 3].map(|()| mix.node(n, random));
+        let third = node_of[columns[a - 1] ^ columns[b - 1]];
+        let c = third.filter(|_| i % 2 == 0).unwrap_or(other);
         bytes.extend([a, b, c].map(|node| node as u8));
     }
     bytes
@@ -83,7 +91,7 @@ fn line(mix: Mix, goal: Option<f64>, random: &mut Random, meter: &mut Meter) -> 
         });
     };
     let rust = |triples: &[u8], answers: &mut [u8]| {
-        answer(triples, answers, |nodes| rivals::related(K, nodes));
+        answer(triples, answers, |[a, b, c]| rivals::related(K, a, b, c));
     };
     let ways: [Way; 2] = [&mogtriz, &rust];
     let mut answers = Aligned::unfilled(TRIPLES);
@@ -145,7 +153,7 @@ fn classes() -> Vec<Class> {
     classes
 }
 
-/// The last k of weight-two, and the first.
+/// Every k of weight-two.
 fn each_k() -> impl Iterator<Item = usize> {
     2..=K
 }
@@ -173,37 +181,54 @@ fn end_of_part() {
     black_box(());
 }
 
-/// What one call of a part takes, where each takes the same.
-struct Cost {
+/// What callgrind counted in a part of the calls.
+struct Part {
+    calls: usize,
     instructions: usize,
-    jumps: usize,
-    taken: usize,
-    one_way: bool,
+    conditional: usize,
+    jumps: Jumps,
 }
 
-impl Cost {
-    fn of(dump: &Dump, calls: usize) -> Cost {
-        let [instructions, jumps] = ["Ir", "Bc"].map(|event| dump.total(event));
-        let taken = dump.taken();
-        let whole = [instructions, jumps, taken].iter().all(|n| n % calls == 0);
-        Cost {
-            instructions: instructions / calls,
-            jumps: jumps / calls,
-            taken: taken / calls,
-            one_way: whole && dump.jumps_go_one_way(),
+impl Part {
+    fn of(dump: &Dump, calls: usize) -> Part {
+        assert_eq!(dump.total("Bi"), 0, "an indirect jump");
+        Part {
+            calls,
+            instructions: dump.total("Ir"),
+            conditional: dump.total("Bc"),
+            jumps: dump.jumps(),
         }
     }
 
+    /// All calls of some parts.
+    fn sum(parts: &[Part]) -> Part {
+        let sum = |number: fn(&Part) -> usize| parts.iter().map(number).sum();
+        Part {
+            calls: sum(|part| part.calls),
+            instructions: sum(|part| part.instructions),
+            conditional: sum(|part| part.conditional),
+            jumps: Jumps::sum(parts.iter().map(|part| &part.jumps)),
+        }
+    }
+
+    /// What a call takes of each, and whether each conditional jump is taken in every call or in none.
     fn text(&self) -> String {
-        let one_way = if self.one_way { "yes" } else { "NO" };
-        format!(
-            "{:>13} {:>12} {:>12} {one_way:>10}",
-            self.instructions, self.jumps, self.taken
-        )
+        let a_call = |number: usize| match number % self.calls {
+            0 => (number / self.calls).to_string(),
+            _ => format!("{:.2}", number as f64 / self.calls as f64),
+        };
+        let [instructions, conditional, taken] =
+            [self.instructions, self.conditional, self.jumps.taken()].map(a_call);
+        let one_way = if self.jumps.go_one_way(self.calls) {
+            "yes"
+        } else {
+            "NO"
+        };
+        format!("{instructions:>13} {conditional:>12} {taken:>12} {one_way:>8}")
     }
 }
 
-const COSTS: &str = " instructions   cond.jumps   jumps taken    one way";
+const COSTS: &str = " instructions   cond.jumps  jumps taken  one way";
 
 /// Prints what a call takes for the triples of each class, and for the nodes of each k.
 pub fn print_each() -> io::Result<()> {
@@ -217,22 +242,29 @@ pub fn print_each() -> io::Result<()> {
     ];
     let dumps = callgrind::dumps(&options, EACH_ONCE)?;
     let classes = classes();
+    assert_eq!(dumps.len(), classes.len() + each_k().count());
     let (of_triples, of_columns) = dumps.split_at(classes.len());
-    println!(
-        "one call of mogtriz_related, weight-two 22, every triple; one way: no jump is taken in some calls alone\n"
-    );
+    println!("what a call takes; one way: each conditional jump is taken in every call or in none");
+    println!("\nmogtriz_related, weight-two 22, every triple\n");
     println!("data blocks  related    triples{COSTS}");
-    for (class, dump) in classes.iter().zip(of_triples) {
-        let triples = class.triples.len();
+    let triples = classes.iter().map(|class| class.triples.len());
+    let parts: Vec<Part> = of_triples.iter().zip(triples).map(of_dump).collect();
+    for (class, part) in classes.iter().zip(&parts) {
         let related = if class.related { "yes" } else { "no" };
-        let cost = Cost::of(dump, triples).text();
-        println!("{:>11} {related:>8} {triples:>10}{cost}", class.data_blocks);
+        let head = format!("{:>11} {related:>8}", class.data_blocks);
+        println!("{head} {:>10}{}", part.calls, part.text());
     }
-    println!("\none call of mogtriz_column, weight-two, every node\n");
-    println!("          k                nodes{COSTS}");
-    for (k, dump) in each_k().zip(of_columns) {
-        let n = code(WEIGHT_TWO, k).n();
-        println!("{k:>11} {n:>20}{}", Cost::of(dump, n).text());
+    let all = Part::sum(&parts);
+    println!("{:>20} {:>10}{}", "all", all.calls, all.text());
+    println!("\nmogtriz_column, weight-two, every node\n");
+    println!("{:>20} {:>10}{COSTS}", "k", "nodes");
+    let nodes = each_k().map(|k| code(WEIGHT_TWO, k).n());
+    for (k, part) in each_k().zip(of_columns.iter().zip(nodes).map(of_dump)) {
+        println!("{k:>20} {:>10}{}", part.calls, part.text());
     }
     Ok(())
+}
+
+fn of_dump((dump, calls): (&Dump, usize)) -> Part {
+    Part::of(dump, calls)
 }

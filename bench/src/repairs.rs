@@ -1,5 +1,6 @@
 //! Planning, timed against the same search in Rust, runs, timed against the same XORs in Rust and by ISA-L, and
-//! against Rust that plans them first, as a run does, and steps, timed against Rust that makes the same checks.
+//! against Rust that plans them first, as a run does, and steps, timed against Rust that checks the same of sound
+//! sessions.
 use crate::isal;
 use crate::rivals::{self, Family};
 use crate::table::{Line, Table};
@@ -10,6 +11,13 @@ use compare::planner;
 use compare::random::Random;
 use compare::samples::Shape;
 use mogtriz::{Refusal, Repairs};
+use std::hint::black_box;
+
+/// The k of weight-two.
+const K: usize = 22;
+
+/// Repetitions of some hundred or thousand steps.
+pub const STEP_ROUNDS: usize = 101;
 
 /// A code with its live nodes, and how a table names them.
 struct Case {
@@ -30,13 +38,12 @@ fn simplex(word: &'static str, live: Vec<u8>) -> Case {
 
 /// Data block 1 and the pairs 1 2, 2 3 and so on, which take the most rounds.
 fn path() -> Case {
-    let k = 22;
-    let columns = code(2, k).columns();
-    let on_path = |column: usize| column == 1 || (0..k - 1).any(|i| column == 0b11 << i);
+    let columns = code(2, K).columns();
+    let on_path = |column: usize| column == 1 || (0..K - 1).any(|i| column == 0b11 << i);
     let nodes = (1..=255).zip(columns);
     Case {
         family: Family::WeightTwo,
-        k,
+        k: K,
         word: "path",
         live: nodes
             .filter(|&(_, c)| on_path(c))
@@ -165,9 +172,16 @@ fn repairs(with_data: bool) -> Vec<[usize; 3]> {
         .collect()
 }
 
-const K: usize = 22;
+/// By number, every node but this one.
+fn all_but_one(shape: Shape) -> Vec<Vec<u8>> {
+    let all = shape.all_nodes();
+    let without = |node: u8| all.iter().copied().filter(move |&n| n != node);
+    (0..=shape.n() as u8)
+        .map(|node| without(node).collect())
+        .collect()
+}
 
-/// Steps that repair blocks of an object, each in a session in which its node alone is missing.
+/// Steps on blocks of an object, each in a session in which its node alone is missing. The block is made 0 before its step.
 fn step(word: &str, with_data: bool, random: &mut Random, meter: &mut Meter) -> Line {
     let (family, len) = (Family::WeightTwo, 64);
     let shape = Shape {
@@ -175,32 +189,29 @@ fn step(word: &str, with_data: bool, random: &mut Random, meter: &mut Meter) -> 
         k: K,
         len,
     };
-    let all = shape.all_nodes();
-    let without = |node: usize| {
-        let live = all.iter().copied().filter(|&n| usize::from(n) != node);
-        shape.session(&live.collect::<Vec<u8>>())
-    };
-    let sessions: Vec<_> = (0..=shape.n()).map(without).collect();
+    let lists = all_but_one(shape);
+    let sessions: Vec<_> = lists.iter().map(|live| shape.session(live)).collect();
     let handed_in: Vec<_> = sessions.iter().copied().map(handed_in).collect();
     let repairs = repairs(with_data);
     let object = random.bytes(K * len);
-    let mut nodes = Aligned::holding(&code(family as usize, K).multiply(len, &object));
+    let mut nodes = Aligned::holding(&code(shape.family, K).multiply(len, &object));
     let expected = nodes.bytes().to_vec();
+    let blank = |nodes: &mut [u8], node: usize| nodes[(node - 1) * len..node * len].fill(0);
     let mogtriz = |_: &[u8], nodes: &mut [u8]| {
         for &[node, first, second] in &repairs {
-            let stepped = handed_in[node].clone().step(nodes, node, [first, second]);
+            blank(nodes, node);
+            let mut session = handed_in[node].clone();
+            let stepped = session.step(nodes, node, [first, second]);
             stepped.expect("a sound step");
+            black_box(session);
         }
     };
     let rust = |_: &[u8], nodes: &mut [u8]| {
         for &triple in &repairs {
-            assert!(rivals::step(
-                K,
-                len,
-                &sessions[triple[0]].live,
-                nodes,
-                triple
-            ));
+            let [node, ..] = triple;
+            blank(nodes, node);
+            let live = rivals::step(K, len, sessions[node].live, nodes, triple);
+            black_box(live.expect("a sound step"));
         }
     };
     let ways: [Way; 2] = [&mogtriz, &rust];
@@ -210,9 +221,6 @@ fn step(word: &str, with_data: bool, random: &mut Random, meter: &mut Meter) -> 
         measured: meter.compare_in_rounds(STEP_ROUNDS, &ways, &[], &mut nodes, &expected, 0),
     }
 }
-
-/// Repetitions of some hundred or thousand steps.
-const STEP_ROUNDS: usize = 101;
 
 pub fn steps(random: &mut Random, meter: &mut Meter) -> Table {
     Table {

@@ -169,32 +169,32 @@ fn pair_column(k: usize, node: usize) -> usize {
 
 /// Whether three weight-two nodes are related, a call of its own as the library's is.
 #[inline(never)]
-pub fn related(k: usize, nodes: [usize; 3]) -> bool {
-    let n = k * (k + 1) / 2;
-    if nodes.iter().any(|node| !(1..=n).contains(node)) {
+pub fn related(k: usize, a: usize, b: usize, c: usize) -> bool {
+    let nodes = 1..=k * (k + 1) / 2;
+    if !nodes.contains(&a) || !nodes.contains(&b) || !nodes.contains(&c) {
         return false;
     }
-    let [a, b, c] = nodes.map(|node| pair_column(k, node));
-    a ^ b ^ c == 0
+    pair_column(k, a) ^ pair_column(k, b) ^ pair_column(k, c) == 0
 }
 
-/// Repairs a weight-two node from two others, if they are related, it is missing and they are live.
+/// Repairs a weight-two node from two others, if they are related, it is missing and they are live; gives the marks after it.
 pub fn step(
     k: usize,
     len: usize,
-    live: &[u8; 256],
+    mut live: [u8; 256],
     nodes: &mut [u8],
     [node, first, second]: [usize; 3],
-) -> bool {
+) -> Option<[u8; 256]> {
     let n = k * (k + 1) / 2;
-    if nodes.len() != n * len || !related(k, [node, first, second]) {
-        return false;
+    if nodes.len() != n * len || !related(k, node, first, second) {
+        return None;
     }
     if live[node] == 1 || live[first] == 0 || live[second] == 0 {
-        return false;
+        return None;
     }
     repair(&[1, node as u8, first as u8, second as u8], len, nodes, xor);
-    true
+    live[node] = 1;
+    Some(live)
 }
 
 /// Makes a plan's steps, four bytes each (round, node, smaller, larger), in the nodes buffer, with XORs by `xor`.

@@ -16,8 +16,8 @@ pub struct Line {
 }
 
 impl Line {
-    /// The time in microseconds that one in so many repetitions did not reach, and the library's as ratios to the others,
-    /// each with its goal.
+    /// The times in microseconds that one in so many repetitions stayed under, 2 for the median, and the library's as ratios
+    /// to the others, each with its goal.
     fn text(&self, one_in: usize) -> String {
         let time = |of_way: &Vec<f64>| of_way[of_way.len() / one_in];
         let times: Vec<f64> = self.measured.iter().map(time).collect();

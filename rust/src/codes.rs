@@ -80,8 +80,8 @@ pub fn node_of_column(family: usize, k: usize, column: usize) -> Option<usize> {
     unless_0(raw::mogtriz_node_of_column(family, k, column))
 }
 
-/// Whether three numbers are nodes and the XOR of their columns is 0, so that each one's block is the XOR of the two
-/// others'. Where there is no such family, k or node they are not.
+/// Whether three numbers are nodes and related: the XOR of their columns is 0, so that each one's block is the XOR of the
+/// two others'. Where two are equal, or there is no such family, k or node, they are not.
 ///
 /// ```
 /// assert!(mogtriz::related(mogtriz::SIMPLEX, 3, [1, 4, 5]));

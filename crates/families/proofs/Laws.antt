@@ -4,7 +4,7 @@
 use mathlib.Core.Path.{_≡_, refl, sym, ap, ap₂, _∙_, subst}
 use mathlib.Core.Bool.{Bool, true}
 use Prim.Native.Nat.{ℕ, zero, suc, _+_, _-_, _*_, _^_, _≤_, _<_}
-use native.Mathlib.Nat.{mul-le-mul, pow-suc, zero-add, zero-mul, suc-mul}
+use native.Mathlib.Nat.{pow-suc, zero-add, zero-mul, suc-mul}
 use native.Mathlib.Omega.{arith}
 use borrow.Author.Tests.{eq-eqb, ne-eqb, eqb-true}
 use lib.Bits.{bitXor, xor-self, xor-comm}
@@ -14,7 +14,7 @@ use lib.Pow.{pow-pos, pow-mono, pow-lt}
 use Rattle.base.proofs.Xor.{xor-third, xor-assoc}
 use Rattle.base.proofs.LowestBit.{Lowest, lowest, lowest-power, lowest-sum, pow-below}
 use Rattle.base.proofs.First.{first-of, first-none, found}
-use Rattle.families.proofs.PairLaws.{PairOf, pair-of, pair-count, pair-once, unit-lt, data-column, pair-column, pair-is-node, pairs-le, placeOf}
+use Rattle.families.proofs.PairLaws.{PairOf, pair-of, pair-count, pair-once, unit-lt, data-column, pair-column, pair-is-node, pairs-le, few-pairs, placeOf}
 use Rattle.families.proofs.TetrahedronLaws.{Entry, entry}
 use Rattle.families.proofs.TetrahedronLaws as tetra
 use Rattle.families.specs.Families.{KInRange, IsNode, nodeCount, columnOf, nodeOf, areRelated, pairNode}
@@ -26,7 +26,7 @@ use Rattle.families.specs.declared.Family.the-variants.{Simplex, WeightT
 pub few : (f : Family) (k : ℕ) → KInRange f k → nodeCount f k ≤ 255
 unfolding nodeCount
 few Simplex k r = omega (arith, pow-mono (r .most))
-few WeightTwo k r = omega (arith, mul-le-mul (r .most) (r .most))
+few WeightTwo k r = omega (arith, few-pairs k (r .most))
 few Tetrahedron k r = omega arith
 
 pub short : (f : Family) (k : ℕ) → KInRange f k → (2 ≤ k) × (k ≤ 22)

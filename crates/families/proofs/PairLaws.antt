@@ -308,10 +308,6 @@ pair-of k j h g =
 
 -- ---- as the code works them out
 
-pub unit-half : (i : ℕ) → 2 ^ i / 2 ≡ unit i
-unit-half zero = refl
-unit-half (suc i) = omega (arith, pow-suc 2 i)
-
 pub unit-small : (i : ℕ) → i ≤ 22 → unit i ≤ 2 ^ 22
 unit-small zero h = omega arith
 unit-small (suc i) h = pow-mono {j = 22} (omega arith)
@@ -321,11 +317,11 @@ pair-product k i h g = mul-le-mul {n₂ = 22} {m₂ = 44} (omega arith) (omega a
 
 -- ---- a node's pair by its place from the last, as the code finds it
 
--- the place is in the row after so many
-abbrev pub InRow : ℕ → ℕ → Type 0
-InRow place rows = (nodeCount WeightTwo rows ≤ place) × (place < nodeCount WeightTwo (rows + 1))
+-- so many rows end before the place
+abbrev AfterRows : ℕ → ℕ → Type 0
+AfterRows place rows = (nodeCount WeightTwo rows ≤ place) × (place < nodeCount WeightTwo (rows + 1))
 
--- the number of which the code takes the root, half its length in bits, and twice Heron's mean from that power of 2
+-- the number of which the code takes the root, half its length in bits, and twice Heron's mean from 2 to that power
 abbrev radicand : ℕ → ℕ
 radicand place = 4 * place + 1
 
@@ -335,69 +331,69 @@ halfLength place = (64 - leadingZeros 64 (radicand place)) / 2
 abbrev twiceMean : ℕ → ℕ
 twiceMean place = radicand place / 2 ^ halfLength place + 2 ^ halfLength place
 
--- so many 128ths of it are the rows, and 1 where that is a row too many
+-- the rows by it, where `part` is the code's factor, 45, in 128ths
 abbrev estimate : ℕ → ℕ → ℕ
 estimate part place = part * twiceMean place / 128
 
-abbrev beyond : ℕ → ℕ → ℕ
-beyond part place = boolByte (ltb place (nodeCount WeightTwo (estimate part place)))
+-- 1 where that is a row too many, else 0
+abbrev excess : ℕ → ℕ → ℕ
+excess part place = boolByte (ltb place (nodeCount WeightTwo (estimate part place)))
 
--- what the code needs of the part, at a place
-abbrev fits : ℕ → ℕ → Bool
-fits part place = leb (estimate part place) 22 && leb (beyond part place) (estimate part place)
+abbrev rowsFound : ℕ → ℕ → ℕ
+rowsFound part place = estimate part place - excess part place
 
-abbrev stands : ℕ → ℕ → Bool
-stands part place = leb (nodeCount WeightTwo (estimate part place - beyond part place)) place && ltb place (nodeCount WeightTwo (estimate part place - beyond part place + 1))
+-- what the code needs of its part, at a place
+abbrev inBounds : ℕ → ℕ → Bool
+inBounds part place = leb (estimate part place) 22 && leb (excess part place) (estimate part place)
 
-abbrev pub rowTest : ℕ → ℕ → Bool
-rowTest part place = fits part place && stands part place
+abbrev rowRight : ℕ → ℕ → Bool
+rowRight part place = leb (nodeCount WeightTwo (rowsFound part place)) place && ltb place (nodeCount WeightTwo (rowsFound part place + 1))
+
+-- where it has that at every place, which one test computes
+module _ (part : ℕ) (every : allBelow (λ p. inBounds part p && rowRight part p) 253 ≡ true) (place : ℕ) (h : place ≤ 252) where
+  bounds : inBounds part place ≡ true
+  bounds = and-left (inBounds part place) (rowRight part place) (all-below (λ p. inBounds part p && rowRight part p) 253 every place (omega arith))
+
+  right : rowRight part place ≡ true
+  right = and-right (inBounds part place) (rowRight part place) (all-below (λ p. inBounds part p && rowRight part p) 253 every place (omega arith))
+
+  pub estimate-le : estimate part place ≤ 22
+  estimate-le = leb-true _ 22 (and-left (leb (estimate part place) 22) (leb (excess part place) (estimate part place)) bounds)
+
+  pub excess-le : excess part place ≤ estimate part place
+  excess-le = leb-true _ _ (and-right (leb (estimate part place) 22) (leb (excess part place) (estimate part place)) bounds)
+
+  pub rows-found : AfterRows place (rowsFound part place)
+  rows-found =
+      let a = leb (nodeCount WeightTwo (rowsFound part place)) place in
+      let b = ltb place (nodeCount WeightTwo (rowsFound part place + 1)) in
+      (leb-true _ _ (and-left a b right), ltb-true _ _ (and-right a b right))
 
 pub mean-small : (place : ℕ) → place ≤ 252 → twiceMean place ≤ 100
 unfolding allBelow leadingZeros
 mean-small place h = leb-true _ 100 (all-below (λ p. leb (twiceMean p) 100) 253 refl place (omega arith))
 
--- where it has that at every place, by one computed test
-module _ (part : ℕ) (every : allBelow (rowTest part) 253 ≡ true) (place : ℕ) (h : place ≤ 252) where
-  fit : fits part place ≡ true
-  fit = and-left (fits part place) (stands part place) (all-below (rowTest part) 253 every place (omega arith))
-
-  stand : stands part place ≡ true
-  stand = and-right (fits part place) (stands part place) (all-below (rowTest part) 253 every place (omega arith))
-
-  pub estimate-short : estimate part place ≤ 22
-  estimate-short = leb-true _ 22 (and-left (leb (estimate part place) 22) (leb (beyond part place) (estimate part place)) fit)
-
-  pub estimate-some : beyond part place ≤ estimate part place
-  estimate-some = leb-true _ _ (and-right (leb (estimate part place) 22) (leb (beyond part place) (estimate part place)) fit)
-
-  pub estimate-in-row : InRow place (estimate part place - beyond part place)
-  estimate-in-row = (leb-true _ _ (and-left _ (ltb place (nodeCount WeightTwo (estimate part place - beyond part place + 1))) stand), ltb-true _ _ (and-right (leb (nodeCount WeightTwo (estimate part place - beyond part place)) place) _ stand))
-
 pairs-mono : (i m : ℕ) → i ≤ m → pairs i ≤ pairs m
-pairs-mono i zero h = let e : i ≡ 0 = omega arith in rw e (omega arith)
-pairs-mono i (suc m) h = go (decLe i m) (λ d. pairs-mono i m d)
-  where
-    go : Dec (i ≤ m) → (i ≤ m → pairs i ≤ pairs m) → pairs i ≤ pairs (suc m)
-    go (yes d) rest = omega (arith, rest d)
-    go (no d) rest = let e : i ≡ suc m = omega arith in rw e (omega arith)
+pairs-mono i m h = omega (arith, pairs-twice i, pairs-twice m, mul-le-mul h h)
 
--- there are at most 253 places
+-- there are at most 253 pairs
 pub few-pairs : (k : ℕ) → k ≤ 22 → nodeCount WeightTwo k ≤ 253
 few-pairs k h = rw (pair-count k) (pairs-mono k 22 h)
 
--- of a place among those of k numbers: it comes before the rows of k, and lies in its row
-pub record Placing (k place rows : ℕ) : Type 0 where
-  pub within : rows < k
-  pub in-row : place - nodeCount WeightTwo rows ≤ rows
+-- a place among the nodes of k: fewer than k rows end before it, and it is one of the rows + 1 places of its own row
+pub record RowFromLast (k place rows : ℕ) : Type 0 where
+  pub row-within : rows < k
+  pub place-within : place - nodeCount WeightTwo rows ≤ rows
 
-pub placing : (k place rows : ℕ) → place < nodeCount WeightTwo k → InRow place rows → Placing k place rows
-placing k place rows h i = record { within = go (decLt rows k); in-row = omega (arith, i .1, pair-count rows, pair-count (rows + 1), ap pairs (add-one rows)) }
+pub row-from-last : (k place rows : ℕ) → place < nodeCount WeightTwo k → AfterRows place rows → RowFromLast k place rows
+row-from-last k place rows h a =
+    record { row-within = go (decLt rows k); place-within = omega (arith, a .1, pair-count rows, pair-count (rows + 1), ap pairs (add-one rows)) }
   where
     go : Dec (rows < k) → rows < k
     go (yes d) = d
-    go (no d) = absurd (omega (arith, i .0, pair-count k, pair-count rows, pairs-mono k rows (omega arith)))
+    go (no d) = absurd (omega (arith, a .0, pair-count k, pair-count rows, pairs-mono k rows (omega arith)))
 
--- from the last, the pair of k − (rows + 1) and k − t is at place t of its row
+-- after the pair of k − (rows + 1) and k − t come so many rows, and t pairs of its own row
 place-from-last : (k rows t : ℕ) → t ≤ rows → rows < k → suc (placeOf k (k - (rows + 1)) (k - t)) + (pairs rows + t) ≡ pairs k
 place-from-last zero rows t h g = absurd (omega arith)
 place-from-last (suc m) rows t h g = go (decLt rows m) (λ d. place-from-last m rows t h d)
@@ -413,8 +409,8 @@ place-from-last (suc m) rows t h g = go (decLt rows m) (λ d. place-from-last m 
         let b : rows ≡ m = omega arith in
         rw (a, b) (omega arith)
 
--- the last data block's column moved down by i is that of the block i before it, and 0 where there is none
-unit-down : (m i : ℕ) → i ≤ suc m → 2 ^ m / 2 ^ i ≡ unit (suc m - i)
+-- the last data block's column shifted right by i is that of the block i before it, and 0 where there is none
+pub unit-down : (m i : ℕ) → i ≤ suc m → 2 ^ m / 2 ^ i ≡ unit (suc m - i)
 unit-down m i h = go (decLe i m)
   where
     go : Dec (i ≤ m) → 2 ^ m / 2 ^ i ≡ unit (suc m - i)
@@ -425,13 +421,13 @@ unit-down m i h = go (decLe i m)
     go (no d) = let e : suc m - i ≡ 0 = omega arith in rw e (div-eq-of-lt (pow-lt (omega arith)))
 
 -- the column of the node at a place from the last
-pub column-from-last : (k place rows : ℕ) → place < nodeCount WeightTwo k → InRow place rows
+pub column-from-last : (k place rows : ℕ) → place < nodeCount WeightTwo k → AfterRows place rows
     → 2 ^ (k - 1) / 2 ^ (rows + 1) + 2 ^ (k - 1) / 2 ^ (place - nodeCount WeightTwo rows) ≡ columnOf WeightTwo k (nodeCount WeightTwo k - place)
-column-from-last zero place rows h i = absurd (not-suc-le-zero (placing zero place rows h i .within))
-column-from-last (suc m) place rows h i =
+column-from-last zero place rows h a = absurd (not-suc-le-zero (row-from-last zero place rows h a .row-within))
+column-from-last (suc m) place rows h a =
     let k : ℕ = suc m in
     let t : ℕ = place - nodeCount WeightTwo rows in
-    let p : Placing k place rows = placing k place rows h i in
-    let e : nodeCount WeightTwo k - place ≡ suc (placeOf k (k - (rows + 1)) (k - t)) = omega (arith, place-from-last k rows t (p .in-row) (p .within), i .0, pair-count k, pair-count rows) in
-    rw (less-one m, e, placed-column k (k - (rows + 1)) (k - t) (omega (arith, p .in-row, p .within)) (omega arith))
-    (ap₂ _+_ (unit-down m (rows + 1) (omega (arith, p .within))) (unit-down m t (omega (arith, p .in-row, p .within))))
+    let r : RowFromLast k place rows = row-from-last k place rows h a in
+    let e : nodeCount WeightTwo k - place ≡ suc (placeOf k (k - (rows + 1)) (k - t)) = omega (arith, place-from-last k rows t (r .place-within) (r .row-within), a .0, pair-count k, pair-count rows) in
+    rw (less-one m, e, placed-column k (k - (rows + 1)) (k - t) (omega (arith, r .place-within, r .row-within)) (omega arith))
+    (ap₂ _+_ (unit-down m (rows + 1) (omega (arith, r .row-within))) (unit-down m t (omega (arith, r .place-within, r .row-within))))

@@ -22,7 +22,7 @@ pub fn count(k: usize) -> usize
     k * (k + 1) / 2
 }
 
-// The column of data block i alone; 0 for i = 0, no block. It asks no question: a block costs what no block does.
+// The column of data block i alone, 2^i halved: 2^(i - 1), and 0 for i = 0, no block, without a test.
 fn unit_column(i: usize) -> usize
     requires { ⌜ i ≤ 22 ⌝ }
     ensures { λ r. ⌜ r ≡ unit i ⌝ }
@@ -30,22 +30,23 @@ fn unit_column(i: usize) -> usize
     base::power(i) >> 1
 }
 
-// How many rows end before a place, both counted back from the last node, the place from 0. Seen from there the rows of the smaller
-// numbers have 1, 2, 3 and so on pairs, whatever k is: r of them have r(r + 1)/2, so that there are about √(2 place), which is
-// √(4 place)/√2. The root is a step of Heron's method from a power of two, (x/2^half + 2^half)/2, and 45/128 is a little less than
-// 1/(2√2). The estimate is right or a row too many, which a comparison tells as a number: nothing branches.
+// How many rows end before a place. A row is the pairs with one smaller number; rows and places are counted back from the last node,
+// places from 0. So the rows have 1, 2, 3 and so on pairs for every k, r rows have r(r + 1)/2, and r is about √(2 place), which is √x/√2
+// for x = 4 place. A step of Heron's method from 2^half gives √x as (x/2^half + 2^half)/2, never too small, and 45/64 is a little less
+// than 1/√2: the estimate is right or one too many, at every place, and the comparison is subtracted as 0 or 1. x is one more than
+// 4 place because the leading zeros of 0 take more instructions.
 fn rows_before(place: usize) -> usize
     requires { ⌜ place ≤ 252 ⌝ }
     ensures { λ r. ⌜ (nodeCount WeightTwo r ≤ place) × (place < nodeCount WeightTwo (r + 1)) ⌝ }
 {
     let x = 4 * place + 1;
     let half = base::bit_length(x) / 2;
-    let rows = 45 * ((x >> half) + base::power(half)) / 128;
-    rows - (place < count(rows)) as usize
+    let estimate = 45 * ((x >> half) + base::power(half)) / 128;
+    estimate - (place < count(estimate)) as usize
 }
 
-// Node j's column, by its place from the last. The numbers of its pair are k less its row and k less its place in the row, and a
-// number's column is data block k's moved down by as many: out of it for no block.
+// Node j's column. Counted back from the last node, rows from 1 and places in a row from 0, the pair at place t of row r is of the numbers
+// k - r and k - t. Number i's column is data block k's shifted right by k - i, which leaves 0 for number 0, no block.
 pub fn column(k: usize, j: usize) -> usize
     requires { ⌜ KInRange WeightTwo k ⌝ }
     requires { ⌜ IsNode WeightTwo k j ⌝ }
@@ -53,8 +54,8 @@ pub fn column(k: usize, j: usize) -> usize
 {
     let place = count(k) - j;
     let rows = rows_before(place);
-    let last = base::power(k - 1);
-    (last >> (rows + 1)) + (last >> (place - count(rows)))
+    let last_block = base::power(k - 1);
+    (last_block >> (rows + 1)) + (last_block >> (place - count(rows)))
 }
 
 // The number of the pair i < j.

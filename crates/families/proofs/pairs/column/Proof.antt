@@ -5,7 +5,7 @@ use Prim.Native.Nat.{_+_, _-_, _<_}
 use lib.Pow.{pow-mono, shr-le}
 use Rattle.families.specs.Families.{nodeCount, columnOf}
 use Rattle.families.specs.declared.Family.the-variants.{WeightTwo}
-use Rattle.families.proofs.PairLaws.{Placing, placing, column-from-last, few-pairs}
+use Rattle.families.proofs.PairLaws.{RowFromLast, row-from-last, column-from-last, few-pairs}
 use borrow.Author.Needs.{needs}
 use native.Mathlib.Omega.{arith}
 use Rattle.families.proofs.pairs.column.Statement.{statement}
@@ -14,28 +14,28 @@ use Rattle.families.proofs.pairs.column.Tie as tie
 rows-before-requires : tie.Need-rows-before-requires
 rows-before-requires c κs = omega (arith, c .count .ensures, few-pairs (c .before .args .k) (c .before .pre .0 .most), c .before .pre .1 .first)
 
--- the place is one of k numbers' pairs
-place : (c : tie.After-count) → c .count .result - c .before .args .j < nodeCount WeightTwo (c .before .args .k)
-place c = omega (arith, c .count .ensures, c .before .pre .1 .first, c .before .pre .1 .last)
+-- the place is a node's
+is-place : (c : tie.After-count) → c .count .result - c .before .args .j < nodeCount WeightTwo (c .before .args .k)
+is-place c = omega (arith, c .count .ensures, c .before .pre .1 .first, c .before .pre .1 .last)
 
-placed : (c : tie.After-rows-before) → Placing (c .before .before .args .k) (c .before .count .result - c .before .before .args .j) (c .rows-before .result)
-placed c = placing _ _ _ (place (c .before)) (c .rows-before .ensures)
+row : (c : tie.After-rows-before) → RowFromLast (c .before .before .args .k) (c .before .count .result - c .before .before .args .j) (c .rows-before .result)
+row c = row-from-last _ _ _ (is-place (c .before)) (c .rows-before .ensures)
 
 -- fewer than 22 rows come before it
-few : (c : tie.After-rows-before) → c .rows-before .result < 22
-few c = omega (arith, placed c .within, c .before .before .pre .0 .most)
+few-rows : (c : tie.After-rows-before) → c .rows-before .result < 22
+few-rows c = omega (arith, row c .row-within, c .before .before .pre .0 .most)
 
 add-result : tie.Need-add-result
-add-result c = omega (arith, few (c .before))
+add-result c = omega (arith, few-rows (c .before))
 
 shr-result : tie.Need-shr-result
-shr-result c = omega (arith, few (c .before))
+shr-result c = omega (arith, few-rows (c .before))
 
 count-requires-2 : tie.Need-count-requires-2
-count-requires-2 c κs = omega (arith, few (c .before))
+count-requires-2 c κs = omega (arith, few-rows (c .before))
 
 shr-result-2 : tie.Need-shr-result-2
-shr-result-2 c = rw (c .count2 .ensures) (omega (arith, few (c .before .before), placed (c .before .before) .in-row))
+shr-result-2 c = rw (c .count2 .ensures) (omega (arith, few-rows (c .before .before), row (c .before .before) .place-within))
 
 add-result-2 : tie.Need-add-result-2
 add-result-2 c =
@@ -53,7 +53,7 @@ returns c =
     let b = c .before .before .before in
     let k = b .before .args .k in
     let e : nodeCount WeightTwo k - (b .count .result - b .before .args .j) ≡ b .before .args .j = omega (arith, b .count .ensures, b .before .pre .1 .last) in
-    rw (c .before .power .ensures, c .count2 .ensures) (column-from-last k _ _ (place b) (c .before .before .rows-before .ensures)) ∙ ap (columnOf WeightTwo k) e
+    rw (c .before .power .ensures, c .count2 .ensures) (column-from-last k _ _ (is-place b) (c .before .before .rows-before .ensures)) ∙ ap (columnOf WeightTwo k) e
 
 pub column-spec : {M : Type 1} → statement M
 column-spec =
