@@ -3,6 +3,7 @@
 mod boxes;
 mod callgrind;
 mod counting;
+mod each_triple;
 mod encoding;
 mod isal;
 mod relations;
@@ -24,9 +25,9 @@ fn main() -> io::Result<()> {
             let counts = counting::counts()?;
             print_counts(&tables(Meter::Counted(counts.into_iter())));
         }
-        ["--related"] => relations::print_each()?,
+        ["--related"] => each_triple::print_costs()?,
         [counting::ONCE] => drop(tables(Meter::Once)),
-        [relations::EACH_ONCE] => relations::call_each_once(),
+        [each_triple::ONCE] => each_triple::call_each_once(),
         _ => {
             eprintln!("usage: bash bench/run [--count | --related]");
             process::exit(2);
