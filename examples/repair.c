@@ -1,6 +1,6 @@
 /*
- * An object is stored as a box that keeps three of its seven nodes; the others are planned, repaired and read out. It is C99 and C++
- * alike. Where the library is installed:
+ * An object is stored as a box that keeps three of its seven nodes; the others are planned and repaired, and it is put away whole and
+ * read out. It is C99 and C++ alike. Where the library is installed:
  *
  *   cc -std=c99 repair.c $(pkg-config --cflags --libs mogtriz) -o repair && ./repair
  */
@@ -99,6 +99,20 @@ static mogtriz_session repair(mogtriz_session session, buffer nodes)
     return run.session;
 }
 
+/* The box of every live node. They are named one by one: an empty list would give an empty box. */
+static void put_away(mogtriz_session session, buffer nodes)
+{
+    uint8_t list[MOGTRIZ_MOST_NODES];
+    mogtriz_written listed = mogtriz_live_nodes(session, list, sizeof list);
+    expect_served("live nodes", listed.refusal);
+    buffer box = make_buffer(mogtriz_box_len(session.family, session.k, session.len, listed.length));
+    mogtriz_written written =
+        mogtriz_write(session, nodes.bytes, nodes.length, list, listed.length, box.bytes, box.length);
+    expect_served("write", written.refusal);
+    printf("put away a box of %zu nodes, %zu bytes\n", listed.length, written.length);
+    free(box.bytes);
+}
+
 static buffer read_out(mogtriz_session session, buffer nodes)
 {
     buffer object = make_buffer(mogtriz_object_len(session.family, session.k, session.len));
@@ -123,6 +137,7 @@ int main(void)
     mogtriz_session session = read_box(box, &nodes);
     print_plan(session);
     session = repair(session, nodes);
+    put_away(session, nodes);
     buffer again = read_out(session, nodes);
     int same = again.length == object_len && memcmp(again.bytes, object, object_len) == 0;
 

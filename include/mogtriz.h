@@ -45,7 +45,7 @@
  * The version of this header, raised when a layout or an answer changes. Where the library's is another, what it takes and gives
  * may be other than what is said here.
  */
-#define MOGTRIZ_VERSION 3
+#define MOGTRIZ_VERSION 4
 
 /* The families, with the range of k and n. */
 #define MOGTRIZ_SIMPLEX 1 /* n is 2^k - 1 */
@@ -180,7 +180,10 @@ typedef struct {
     mogtriz_session session;
 } mogtriz_started;
 
-/* What writing gives: 0 and the box's length, or the refusal's number and 0; the session as it was handed in. */
+/*
+ * What writing a box gives, and listing the live nodes: 0 and how many bytes are written, or the refusal's number and 0; the session as
+ * it was handed in.
+ */
 typedef struct {
     uint8_t refusal;
     size_t length;
@@ -248,11 +251,18 @@ MOGTRIZ_CALL mogtriz_started mogtriz_read(const uint8_t *box, size_t box_len, ui
 MOGTRIZ_CALL mogtriz_part mogtriz_body(const uint8_t *box, size_t box_len, size_t node);
 
 /*
- * A box of the listed live nodes; an empty list stands for every live node. Nothing beyond the length is written. Gives 0 or: 13,
- * 6 where nodes_len is not n * len, 4, 5, 12 where a listed node is missing, 6 where the destination is shorter than the box.
+ * A box of the listed live nodes; an empty list stands for no node, and gives a box of MOGTRIZ_BOX_HEAD bytes with E = 0. Whoever wants
+ * every live node names them all, by mogtriz_live_nodes. Nothing beyond the length is written. Gives 0 or: 13, 6 where nodes_len is
+ * not n * len, 4, 5, 12 where a listed node is missing, 6 where the destination is shorter than the box.
  */
 MOGTRIZ_CALL mogtriz_written mogtriz_write(mogtriz_session session, const uint8_t *nodes, size_t nodes_len, const uint8_t *list,
                                            size_t list_len, uint8_t *out, size_t out_len);
+
+/*
+ * The session's live nodes, rising, a byte each: a list for mogtriz_write and mogtriz_start. `length` is their number, and nothing
+ * beyond it is written; MOGTRIZ_MOST_NODES bytes are room for any. Gives 0 or: 13, 6 where the buffer is shorter than the list.
+ */
+MOGTRIZ_CALL mogtriz_written mogtriz_live_nodes(mogtriz_session session, uint8_t *out, size_t out_len);
 
 /*
  * The k data blocks, from the nodes that hold one each. Gives 0 or: 13, 6 where nodes_len is not n * len or object_len is not
@@ -370,6 +380,11 @@ MOGTRIZ_ANSWERS static inline mogtriz_written mogtriz_inline_write(mogtriz_sessi
                          list_len, mogtriz_inline_target(out, out_len), out_len);
 }
 
+MOGTRIZ_ANSWERS static inline mogtriz_written mogtriz_inline_live_nodes(mogtriz_session session, uint8_t *out, size_t out_len)
+{
+    return mogtriz_live_nodes(session, mogtriz_inline_target(out, out_len), out_len);
+}
+
 MOGTRIZ_ANSWERS static inline mogtriz_read_out_answer mogtriz_inline_read_out(mogtriz_session session, const uint8_t *nodes,
                                                                               size_t nodes_len, uint8_t *object,
                                                                               size_t object_len)
@@ -406,6 +421,7 @@ MOGTRIZ_ANSWERS static inline mogtriz_repairs mogtriz_inline_run(mogtriz_session
 #define mogtriz_read(...) mogtriz_inline_read(__VA_ARGS__)
 #define mogtriz_body(...) mogtriz_inline_body(__VA_ARGS__)
 #define mogtriz_write(...) mogtriz_inline_write(__VA_ARGS__)
+#define mogtriz_live_nodes(...) mogtriz_inline_live_nodes(__VA_ARGS__)
 #define mogtriz_read_out(...) mogtriz_inline_read_out(__VA_ARGS__)
 #define mogtriz_step(...) mogtriz_inline_step(__VA_ARGS__)
 #define mogtriz_plan(...) mogtriz_inline_plan(__VA_ARGS__)
@@ -455,7 +471,7 @@ static inline size_t mogtriz_box_len(size_t family, size_t k, size_t len, size_t
     return MOGTRIZ_BOX_HEAD + held + held * len;
 }
 
-/* How many nodes are live: the `held` of a box of every live node. */
+/* How many nodes are live: the room that mogtriz_live_nodes needs, and the `held` of a box of every live node. */
 static inline size_t mogtriz_live_count(mogtriz_session session)
 {
     size_t count = 0;

@@ -84,6 +84,40 @@ static void call_boxes(void)
     EXPECT(written.refusal == MOGTRIZ_REFUSED_NO_SUCH_SESSION && written.length == 0 && same_session(written.session, no_session()));
 }
 
+/* An empty list stands for no node: its box is the head alone, and reads to a session with none live. */
+static void call_write_with_no_node(void)
+{
+    const uint8_t head[MOGTRIZ_BOX_HEAD] = {MOGTRIZ_SIMPLEX, K, LEN, 0, 0, 0, 0, 0};
+    uint8_t nodes[N * LEN], out[sizeof head + 1];
+    memcpy(nodes, three_nodes, sizeof nodes);
+    memset(out, 0xaa, sizeof out);
+    EXPECT(mogtriz_write(three_live(), nodes, sizeof nodes, kept, 0, out, sizeof head - 1).refusal == MOGTRIZ_REFUSED_BUFFER_LENGTH);
+    EXPECT(out[0] == 0xaa);
+    mogtriz_written written = mogtriz_write(three_live(), nodes, sizeof nodes, kept, 0, out, sizeof out);
+    EXPECT(written.refusal == MOGTRIZ_SERVED && written.length == sizeof head && same_session(written.session, three_live()));
+    EXPECT(memcmp(out, head, sizeof head) == 0 && out[sizeof head] == 0xaa);
+
+    mogtriz_started box_read = mogtriz_read(head, sizeof head, nodes, sizeof nodes);
+    EXPECT(box_read.refusal == MOGTRIZ_SERVED && mogtriz_live_count(box_read.session) == 0);
+    EXPECT(memcmp(nodes, three_nodes, sizeof nodes) == 0);
+}
+
+/* The live nodes named, which write the box again. */
+static void call_live_nodes(void)
+{
+    uint8_t list[MOGTRIZ_MOST_NODES], out[sizeof three_box];
+    memset(list, 0xaa, sizeof list);
+    mogtriz_written listed = mogtriz_live_nodes(three_live(), list, sizeof kept - 1);
+    EXPECT(listed.refusal == MOGTRIZ_REFUSED_BUFFER_LENGTH && listed.length == 0 && list[0] == 0xaa);
+    listed = mogtriz_live_nodes(no_session(), list, sizeof list);
+    EXPECT(listed.refusal == MOGTRIZ_REFUSED_NO_SUCH_SESSION && listed.length == 0 && same_session(listed.session, no_session()));
+    listed = mogtriz_live_nodes(three_live(), list, sizeof list);
+    EXPECT(listed.refusal == MOGTRIZ_SERVED && listed.length == sizeof kept && same_session(listed.session, three_live()));
+    EXPECT(memcmp(list, kept, sizeof kept) == 0 && list[sizeof kept] == 0xaa);
+    EXPECT(mogtriz_write(three_live(), three_nodes, sizeof three_nodes, list, listed.length, out, sizeof out).refusal == MOGTRIZ_SERVED);
+    EXPECT(memcmp(out, three_box, sizeof out) == 0);
+}
+
 static void call_read_out(void)
 {
     const uint8_t data[] = {1, 2, 4};
@@ -168,6 +202,8 @@ int main(void)
     call_encode();
     call_start();
     call_boxes();
+    call_write_with_no_node();
+    call_live_nodes();
     call_read_out();
     call_repairs();
     call_to_be_refused();

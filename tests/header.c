@@ -97,12 +97,13 @@ static void hold_encode_lengths(size_t family, size_t k, size_t len)
 static void hold_box_length(size_t family, size_t k, size_t len, size_t held)
 {
     const size_t nodes_len = mogtriz_nodes_len(family, k, len), box_len = mogtriz_box_len(family, k, len, held);
-    uint8_t list[MOGTRIZ_MOST_NODES];
+    uint8_t list[MOGTRIZ_MOST_NODES], room[MOGTRIZ_MOST_NODES];
     for (size_t i = 0; i < held; i++) {
         list[i] = (uint8_t)(i + 1);
     }
     mogtriz_session session = mogtriz_start(family, k, len, list, held).session;
     EXPECT(mogtriz_live_count(session) == held);
+    EXPECT(mogtriz_live_nodes(session, room, held).length == held && memcmp(room, list, held) == 0);
     mogtriz_written written = mogtriz_write(session, long_nodes, nodes_len, list, held, long_box, box_len);
     EXPECT(written.refusal == MOGTRIZ_SERVED && written.length == box_len);
     written = mogtriz_write(session, long_nodes, nodes_len, list, held, long_box, box_len - 1);

@@ -79,6 +79,11 @@ static void write_box(void)
     given = mogtriz_write(session, nodes, nodes_len, list, list_len, out, sizeof out).refusal;
 }
 
+static void live_nodes(void)
+{
+    given = mogtriz_live_nodes(session, plan, sizeof plan).refusal;
+}
+
 static void read_out(void)
 {
     given = mogtriz_read_out(session, nodes, nodes_len, object, object_len).refusal;
@@ -106,8 +111,8 @@ static struct {
 } calls[] = {
     {"version", version, 0},   {"node_count", node_count, 0}, {"column", column, 0},     {"node_of_column", node_of_column, 0},
     {"related", related, 0},   {"encode", encode, 0},         {"start", start, 0},       {"check", check, 0},
-    {"read", read_box, 0},     {"body", body, 0},             {"write", write_box, 0},   {"read_out", read_out, 0},
-    {"step", step, 0},         {"plan", make_plan, 0},        {"run", run, 0},
+    {"read", read_box, 0},     {"body", body, 0},             {"write", write_box, 0},   {"live_nodes", live_nodes, 0},
+    {"read_out", read_out, 0}, {"step", step, 0},             {"plan", make_plan, 0},    {"run", run, 0},
 };
 
 enum { CALLS = sizeof calls / sizeof calls[0] };

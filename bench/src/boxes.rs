@@ -1,4 +1,5 @@
-//! Reading and writing a box of every node, timed against copying the same bodies one by one in Rust.
+//! Reading and writing a box of every node, timed against copying the same bodies one by one in Rust; and the live nodes listed,
+//! timed against Rust that checks the same of a session's marks.
 use crate::rivals::{self, Family};
 use crate::table::{Line, Table};
 use crate::timing::{Aligned, Meter, Way};
@@ -6,6 +7,7 @@ use compare::boxes::HEAD;
 use compare::library::handed_in;
 use compare::random::Random;
 use compare::samples::Shape;
+use std::hint::black_box;
 
 const WAYS: [&str; 2] = ["Mogtriz", "Rust"];
 
@@ -58,7 +60,7 @@ impl Full {
     fn write(&self, meter: &mut Meter) -> Vec<Vec<f64>> {
         let session = handed_in(self.shape.session(&self.list));
         let mogtriz = |nodes: &[u8], out: &mut [u8]| {
-            let length = session.write(nodes, &[], out);
+            let length = session.write(nodes, &self.list, out);
             assert_eq!(length.expect("a sound call"), out.len());
         };
         let rust = |nodes: &[u8], out: &mut [u8]| {
@@ -99,4 +101,44 @@ pub fn tables(random: &mut Random, meter: &mut Meter) -> [Table; 2] {
         table("read a box", random, meter, Full::read),
         table("write a box", random, meter, Full::write),
     ]
+}
+
+/// The live nodes of a code, and how the table names them.
+fn live_list(word: &str, live: &[u8], meter: &mut Meter) -> Line {
+    let (family, k) = (Family::WeightTwo, 22);
+    let shape = Shape {
+        family: family as usize,
+        k,
+        len: 1,
+    };
+    let session = handed_in(shape.session(live));
+    let mogtriz = |_: &[u8], out: &mut [u8]| {
+        let count = session.live_nodes_into(out);
+        assert_eq!(count.expect("a sound call"), live.len());
+    };
+    let rust = |_: &[u8], out: &mut [u8]| {
+        let count = rivals::list_live(shape.n(), black_box(session.marks()), out);
+        assert_eq!(count.expect("a sound call"), live.len());
+    };
+    let ways: [Way; 2] = [&mogtriz, &rust];
+    let mut out = Aligned::unfilled(live.len());
+    Line {
+        name: family.name(k, format!("{word} live")),
+        goals: vec![None],
+        measured: meter.compare_and_measure(&ways, &[], &mut out, live, 0),
+    }
+}
+
+pub fn live_lists(random: &mut Random, meter: &mut Meter) -> Table {
+    let all: Vec<u8> = (1..=253).collect();
+    let chosen = |_: &&u8| random.below(2) == 0;
+    let half: Vec<u8> = all.iter().filter(chosen).copied().collect();
+    let lines = [("all", &all[..]), ("half", &half), ("none", &[])];
+    Table {
+        title: "list the live nodes",
+        ways: &WAYS,
+        lines: lines
+            .map(|(word, live)| live_list(word, live, meter))
+            .into(),
+    }
 }

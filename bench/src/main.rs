@@ -1,4 +1,4 @@
-//! Encoding, boxes, plans, runs and relations, timed against other ways to fill the same buffers; with `--count`, the
+//! Encoding, boxes, lists of live nodes, plans, runs and relations, timed against other ways to fill the same buffers; with `--count`, the
 //! instructions of one call of each; with `--related`, what a relation takes for every triple of weight-two 22.
 mod boxes;
 mod callgrind;
@@ -36,7 +36,7 @@ fn main() -> io::Result<()> {
     Ok(())
 }
 
-fn tables(mut meter: Meter) -> [Table; 7] {
+fn tables(mut meter: Meter) -> [Table; 8] {
     let mut random = Random::seeded();
     let [read, write] = boxes::tables(&mut random, &mut meter);
     let encode = encoding::table(&mut random, &mut meter);
@@ -44,7 +44,8 @@ fn tables(mut meter: Meter) -> [Table; 7] {
     let run = repairs::runs(&mut random, &mut meter);
     let step = repairs::steps(&mut random, &mut meter);
     let relate = relations::table(&mut random, &mut meter);
-    [encode, read, write, plan, run, step, relate]
+    let list = boxes::live_lists(&mut random, &mut meter);
+    [encode, read, write, list, plan, run, step, relate]
 }
 
 fn print_times(tables: &[Table]) {

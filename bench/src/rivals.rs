@@ -1,5 +1,5 @@
 //! The library's work in safe Rust: encoding and repairs, with a block XOR of the caller's choice, the bodies
-//! of a box, planning, and relations. Which blocks go where is worked out beforehand, so that a rival's time is that of the
+//! of a box, the list of the live nodes, planning, and relations. Which blocks go where is worked out beforehand, so that a rival's time is that of the
 //! blocks alone; a planner works out all of it in the call.
 use std::fmt::Display;
 
@@ -45,6 +45,21 @@ fn node_of(family: Family, k: usize, column: usize) -> usize {
         }
         Family::WeightTwo => 0,
     }
+}
+
+/// The live nodes of 1 to n in a lent buffer, and their number; none where a mark is no mark, or live for 0 or above n, or the
+/// buffer is too short.
+pub fn list_live(n: usize, marks: &[u8; 256], out: &mut [u8]) -> Option<usize> {
+    let no_mark = marks.iter().any(|&mark| mark > 1);
+    if no_mark || marks[0] == 1 || marks[n + 1..].contains(&1) {
+        return None;
+    }
+    let live = (1..=n).filter(|&node| marks[node] == 1);
+    let count = live.clone().count();
+    for (place, node) in out.get_mut(..count)?.iter_mut().zip(live) {
+        *place = node as u8;
+    }
+    Some(count)
 }
 
 /// Where a node's block comes from: a data block, or two nodes before it.

@@ -77,7 +77,17 @@ pub fn body(bytes: &[u8], node: usize) -> Part {
 }
 
 pub fn write(session: Session, nodes: &[u8], list: &[u8], out: &mut [u8]) -> Written {
-    let (refusal, length) = match box_for(&session, nodes, list, out.len()) {
+    written(session, box_for(&session, nodes, list, out.len()), out)
+}
+
+/// The live nodes put in a lent buffer (document 02, K7).
+pub fn list_live(session: Session, out: &mut [u8]) -> Written {
+    written(session, live_list_for(&session, out.len()), out)
+}
+
+/// Bytes at the front of their destination, or a refusal.
+fn written(session: Session, made: Result<Vec<u8>, u8>, out: &mut [u8]) -> Written {
+    let (refusal, length) = match made {
         Ok(bytes) => {
             out[..bytes.len()].copy_from_slice(&bytes);
             (0, bytes.len())
@@ -213,7 +223,8 @@ pub fn check_nodes(session: &Session, nodes: &[u8]) -> Result<usize, u8> {
     Ok(n)
 }
 
-/// The box that a call writes: 13, 6 for the nodes, 4, 5, 12, 6 for the destination.
+/// The box that a call writes: 13, 6 for the nodes, 4, 5, 12, 6 for the destination. An empty list stands for no node (document 02,
+/// K7).
 fn box_for(session: &Session, nodes: &[u8], list: &[u8], room: usize) -> Result<Vec<u8>, u8> {
     let n = check_nodes(session, nodes)?;
     check_list(list, n)?;
@@ -221,11 +232,20 @@ fn box_for(session: &Session, nodes: &[u8], list: &[u8], room: usize) -> Result<
     if list.iter().any(|node| !live.contains(node)) {
         return Err(12);
     }
-    let listed = if list.is_empty() { &live } else { list };
-    if room < box_len(listed.len(), session.len) {
+    if room < box_len(list.len(), session.len) {
         return Err(6);
     }
-    Ok(box_of(session, nodes, listed))
+    Ok(box_of(session, nodes, list))
+}
+
+/// The list that a call makes of the live nodes: 13, then 6 for a buffer that is too short.
+fn live_list_for(session: &Session, room: usize) -> Result<Vec<u8>, u8> {
+    check_session(session)?;
+    let live = live_nodes(session);
+    if room < live.len() {
+        return Err(6);
+    }
+    Ok(live)
 }
 
 fn box_of(session: &Session, nodes: &[u8], list: &[u8]) -> Vec<u8> {

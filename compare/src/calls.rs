@@ -87,6 +87,19 @@ pub fn write(session: Session, nodes: &[u8], list: &[u8], out_len: usize) -> u8 
     wanted.refusal
 }
 
+pub fn live_nodes(session: Session, out_len: usize) -> u8 {
+    let mut out = Guarded::filled(out_len);
+    let mut expected = out.bytes().to_vec();
+    let wanted = boxes::list_live(session, &mut expected);
+    let place = || format!("live nodes {session:?} into {out_len}");
+    for live_nodes in [library::live_nodes, raw::live_nodes] {
+        assert_eq!(live_nodes(session, out.bytes_mut()), wanted, "{}", place());
+        let as_wanted = written_as(&out, &expected);
+        assert!(as_wanted, "{}: the list differs", place());
+    }
+    wanted.refusal
+}
+
 pub fn read_out(session: Session, nodes: &[u8], object_len: usize) -> u8 {
     let lent = Guarded::holding(nodes);
     let mut object = Guarded::filled(object_len);

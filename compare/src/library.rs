@@ -56,12 +56,12 @@ pub fn body(bytes: &[u8], node: usize) -> Part {
 
 pub fn write(session: Session, nodes: &[u8], list: &[u8], out: &mut [u8]) -> Written {
     let session = handed_in(session);
-    let answer = session.write(nodes, list, out);
-    Written {
-        refusal: number(answer),
-        length: answer.unwrap_or(0),
-        session: left_of(&session),
-    }
+    written(session.write(nodes, list, out), &session)
+}
+
+pub fn live_nodes(session: Session, out: &mut [u8]) -> Written {
+    let session = handed_in(session);
+    written(session.live_nodes_into(out), &session)
 }
 
 pub fn read_out(session: Session, nodes: &[u8], object: &mut [u8]) -> ReadOut {
@@ -126,6 +126,14 @@ fn started(answer: Result<mogtriz::Session, Refusal>) -> Started {
     Started {
         session: answer.as_ref().map_or(NO_SESSION, left_of),
         refusal: number(answer),
+    }
+}
+
+fn written(answer: Result<usize, Refusal>, session: &mogtriz::Session) -> Written {
+    Written {
+        refusal: number(answer),
+        length: answer.unwrap_or(0),
+        session: left_of(session),
     }
 }
 

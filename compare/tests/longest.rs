@@ -88,8 +88,8 @@ impl Case {
         [calls::check(&bytes), calls::read(&bytes, nodes_len), body]
     }
 
-    /// What step, plan, run, write and read out give in a session with this L.
-    fn numbers_in_a_session(&self, random: &mut Random) -> [u8; 5] {
+    /// What step, plan, run, write, live nodes and read out give in a session with this L.
+    fn numbers_in_a_session(&self, random: &mut Random) -> [u8; 6] {
         let live = self.live();
         let fitting = self.shape.session(&live);
         let session = Session {
@@ -104,6 +104,7 @@ impl Case {
             calls::plan(session, 4 * self.shape.n()).refusal,
             calls::run(session, &mut lent()).refusal,
             calls::write(session, &self.nodes, &live, room),
+            calls::live_nodes(session, live.len()),
             calls::read_out(session, &self.nodes, self.object.len()),
         ]
     }
@@ -118,7 +119,7 @@ fn hold_every_call(lens: &[usize], number: u8, in_session: u8) {
             let place = format!("family {family} k {k} L {len}");
             assert_eq!(case.numbers(), [number; 2], "{place}");
             let numbers = case.numbers_in_a_session(random);
-            assert_eq!(numbers, [in_session; 5], "{place}");
+            assert_eq!(numbers, [in_session; 6], "{place}");
             if len < 1 << 16 {
                 let numbers = case.numbers_of_a_box(random);
                 assert_eq!(numbers, [number; 3], "{place}");

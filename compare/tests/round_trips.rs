@@ -26,8 +26,8 @@ fn start(shape: Shape, live: &[u8]) -> Session {
 }
 
 /// The box that has to be written, nothing else in the destination being changed.
-fn write(session: Session, nodes: &[u8], list: &[u8], held: usize) -> Vec<u8> {
-    let length = box_len(held, session.len);
+fn write(session: Session, nodes: &[u8], list: &[u8]) -> Vec<u8> {
+    let length = box_len(list.len(), session.len);
     let mut out = Guarded::filled(length + 17);
     let beyond = out.bytes()[length..].to_vec();
     for write in [library::write, raw::write] {
@@ -39,6 +39,14 @@ fn write(session: Session, nodes: &[u8], list: &[u8], held: usize) -> Vec<u8> {
     let unwritten = out.bytes()[length..] == beyond && out.guards_untouched();
     assert!(unwritten, "{session:?} {list:?}: bytes beyond the box");
     out.bytes()[..length].to_vec()
+}
+
+/// The list that has to be made of a session's live nodes.
+fn every_live_node(session: Session) -> Vec<u8> {
+    let mut out = [0; 255];
+    let listed = library::live_nodes(session, &mut out);
+    assert_eq!(listed.refusal, 0, "{session:?}");
+    out[..listed.length].to_vec()
 }
 
 /// Reads a box that has to be accepted, into a pattern.
@@ -85,9 +93,8 @@ fn a_box_that_is_written_reads_to_the_same_nodes() {
             let session = start(shape, &live);
             let some = some_of(&live, &mut random);
             for list in [&[][..], &live, &some] {
-                let listed = if list.is_empty() { &live } else { list };
-                let bytes = write(session, &nodes, list, listed.len());
-                compare_nodes(&bytes, shape, listed, &nodes);
+                let bytes = write(session, &nodes, list);
+                compare_nodes(&bytes, shape, list, &nodes);
                 count += 1;
             }
         }
@@ -104,8 +111,11 @@ fn an_accepted_box_written_again_has_the_same_bytes() {
         for list in shape.lists(&mut random) {
             let bytes = shape.box_of(&list, &mut random);
             let (session, nodes) = read(&bytes, shape);
-            for list in [&[][..], &bytes[HEAD..HEAD + list.len()]] {
-                let again = write(session, nodes.bytes(), list, bytes[4].into());
+            let own = &bytes[HEAD..HEAD + list.len()];
+            let live = every_live_node(session);
+            assert_eq!(live, own, "{session:?}");
+            for list in [own, &live] {
+                let again = write(session, nodes.bytes(), list);
                 assert!(again == bytes, "{session:?} {list:?}");
             }
             counts[usize::from(list.is_empty())] += 1;
@@ -127,7 +137,7 @@ fn through_a_box(shape: Shape, live: &[u8], object: &[u8]) -> usize {
     let mut nodes = vec![0; shape.nodes_len()];
     let encoded = library::encode(shape.family, shape.k, shape.len, object, &mut nodes);
     assert_eq!(encoded, 0, "{shape:?}");
-    let bytes = write(start(shape, live), &nodes, &[], live.len());
+    let bytes = write(start(shape, live), &nodes, live);
     let (session, nodes) = read(&bytes, shape);
     assert_eq!(
         session,

@@ -1,4 +1,4 @@
-//! Starting, writing a box and reading out, against the papers' model, over sessions, lists and buffers of
+//! Starting, writing a box, listing the live nodes and reading out, against the papers' model, over sessions, lists and buffers of
 //! every content and length.
 use compare::boxes::{self, box_len, live_nodes};
 use compare::calls;
@@ -83,13 +83,9 @@ fn with_another(mut list: Vec<u8>, shape: Shape, random: &mut Random) -> Vec<u8>
     list
 }
 
-/// Room for a box of the list, or of every live node: enough, one short, or another length.
-fn room_for(session: &Session, shape: Shape, list: &[u8], random: &mut Random) -> usize {
-    let held = match list.len() {
-        0 => live_nodes(session).len(),
-        count => count.min(shape.n()),
-    };
-    let exact = box_len(held, shape.len);
+/// Room for a box of the list: enough, one short, or another length.
+fn room_for(shape: Shape, list: &[u8], random: &mut Random) -> usize {
+    let exact = box_len(list.len().min(shape.n()), shape.len);
     let short = random.below(exact);
     let long = exact + random.below(100);
     *random.of(&[exact, exact, long, long, exact + 1, exact - 1, short])
@@ -102,7 +98,7 @@ fn boxes_are_written_as_the_papers_say() {
     let nodes = Nodes::new(&mut random);
     let write = |shape: Shape, session: Session, nodes_len: usize, random: &mut Random| {
         let list = list_to_write(shape, &session, random);
-        let room = room_for(&session, shape, &list, random);
+        let room = room_for(shape, &list, random);
         calls::write(session, nodes.some(nodes_len, random), &list, room)
     };
     repeat(&mut tally, "sound", 4000, |shape| {
@@ -142,6 +138,45 @@ fn write_every_short_list(tally: &mut Tally, random: &mut Random) {
                 for room in 0..=box_len(3, shape.len) + 1 {
                     tally.add(calls::write(shape.session(live), &nodes, list, room));
                 }
+            }
+        }
+    }
+}
+
+#[test]
+fn live_nodes_are_listed_as_the_papers_say() {
+    let mut random = Random::seeded();
+    let mut tally = Tally::of("live nodes");
+    let list = |session: Session, random: &mut Random| {
+        let exact = live_nodes(&session).len();
+        let [less, more] = [random.below(exact + 1), exact + random.below(100)];
+        let room = *random.of(&[exact, exact.saturating_sub(1), less, more]);
+        calls::live_nodes(session, room)
+    };
+    repeat(&mut tally, "sound", 2000, |shape| {
+        list(sound_session(shape, &mut random), &mut random)
+    });
+    repeat(&mut tally, "sessions", 2000, |shape| {
+        list(any_session(shape, &mut random), &mut random)
+    });
+    tally.begin("each mark");
+    for (_, session) in sessions_with_each_mark(&mut random) {
+        tally.add(list(session, &mut random));
+    }
+    tally.begin("each count");
+    for shape in THREE_NODES.into_iter().chain(shapes()) {
+        list_each_count(shape, &mut tally);
+    }
+    tally.report(&[0, 6, 13], 200_000);
+}
+
+/// The first nodes of a code live, and the last ones, as many as there are of both, into just enough room and a byte less.
+fn list_each_count(shape: Shape, tally: &mut Tally) {
+    let all = shape.all_nodes();
+    for count in 0..=all.len() {
+        for live in [&all[..count], &all[all.len() - count..]] {
+            for room in count.saturating_sub(1)..=count + 1 {
+                tally.add(calls::live_nodes(shape.session(live), room));
             }
         }
     }

@@ -1,7 +1,7 @@
 //! A box of any content: checked, read, and a body looked for in it; an accepted one is written again, repaired and read
 //! out.
 use crate::input::{Input, MOST_BYTES};
-use crate::seen::Operation::{Body, Check, Plan, Read, ReadOut, Run, Write};
+use crate::seen::Operation::{Body, Check, LiveNodes, Plan, Read, ReadOut, Run, Write};
 use crate::seen::count;
 use compare::boxes::{self, HEAD, box_len, live_nodes};
 use compare::papers::checked_node_count;
@@ -54,10 +54,14 @@ fn near_n(family: usize, k: usize, choice: u8) -> u8 {
     held.min(255) as u8
 }
 
-/// An accepted box has the same bytes when it is written again; then lists of its nodes, a run, and all that is live.
+/// An accepted box has the same bytes when it is written again, by its live nodes, which are its own list; then lists of its nodes,
+/// a run, and all that is live.
 fn with_nodes(session: Session, nodes: &mut [u8], list: &[u8], bytes: &[u8]) {
     let mut again = vec![0; bytes.len()];
-    let written = library::write(session, nodes, &[], &mut again);
+    let own = live_nodes(&session);
+    assert_eq!(own, bytes[HEAD..HEAD + own.len()]);
+    count(LiveNodes, calls::live_nodes(session, own.len()));
+    let written = library::write(session, nodes, &own, &mut again);
     assert_eq!((written.refusal, &again[..]), (0, bytes));
     count(Write, calls::write(session, nodes, list, bytes.len()));
     count(Plan, calls::plan(session, 4 * 255).refusal);
@@ -66,7 +70,8 @@ fn with_nodes(session: Session, nodes: &mut [u8], list: &[u8], bytes: &[u8]) {
     let run = calls::run(session, nodes);
     count(Run, run.refusal);
     count(ReadOut, calls::read_out(run.session, nodes, object_len));
-    let held = live_nodes(&run.session).len();
-    let room = box_len(held, session.len);
-    count(Write, calls::write(run.session, nodes, &[], room));
+    let live = live_nodes(&run.session);
+    count(LiveNodes, calls::live_nodes(run.session, live.len()));
+    let room = box_len(live.len(), session.len);
+    count(Write, calls::write(run.session, nodes, &live, room));
 }

@@ -1,7 +1,7 @@
 //! A start and a list of calls, each getting the session that the one before gave back; after it, what is missing once no
 //! pair is left are the nodes that were open at the start.
 use crate::input::Input;
-use crate::seen::Operation::{Plan, ReadOut, Run, Start, Step, Write};
+use crate::seen::Operation::{LiveNodes, Plan, ReadOut, Run, Start, Step, Write};
 use crate::seen::count;
 use compare::boxes::{self, box_len, live_nodes, missing_nodes};
 use compare::calls;
@@ -41,7 +41,7 @@ impl List {
     }
 
     fn call(&mut self, input: &mut Input) {
-        match input.byte() % 9 {
+        match input.byte() % 10 {
             0 => self.step([(); 3].map(|()| input.number())),
             1 | 2 => self.right_step(input),
             3 => self.run(),
@@ -52,7 +52,8 @@ impl List {
                 let length = input.nodes_len(&self.session);
                 self.nodes.resize(length, 0xa5);
             }
-            _ => self.change(input),
+            8 => self.change(input),
+            _ => self.live_nodes(input),
         }
     }
 
@@ -104,13 +105,14 @@ impl List {
 
     fn write(&mut self, input: &mut Input) {
         let list = input.list();
-        let held = match list.len() {
-            0 => live_nodes(&self.session).len(),
-            count => count,
-        };
-        let exact = box_len(held, self.session.len.min(MOST_LENGTH));
+        let exact = box_len(list.len(), self.session.len.min(MOST_LENGTH));
         let room = input.length_near(exact);
         count(Write, calls::write(self.session, &self.nodes, &list, room));
+    }
+
+    fn live_nodes(&mut self, input: &mut Input) {
+        let room = input.length_near(live_nodes(&self.session).len());
+        count(LiveNodes, calls::live_nodes(self.session, room));
     }
 
     fn read_out(&mut self, input: &mut Input) {

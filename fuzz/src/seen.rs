@@ -11,14 +11,24 @@ pub enum Operation {
     Read,
     Body,
     Write,
+    LiveNodes,
     ReadOut,
     Step,
     Plan,
     Run,
 }
 
-const NAMES: [&str; 9] = [
-    "start", "check", "read", "body", "write", "read out", "step", "plan", "run",
+const NAMES: [&str; 10] = [
+    "start",
+    "check",
+    "read",
+    "body",
+    "write",
+    "live nodes",
+    "read out",
+    "step",
+    "plan",
+    "run",
 ];
 
 static SEEN: [[AtomicUsize; NUMBERS]; NAMES.len()] =
@@ -43,6 +53,6 @@ extern "C" fn print() {
         let cells: Vec<String> = seen
             .map(|(number, count)| format!("{number}: {count}"))
             .collect();
-        println!("{name:<8} {}", cells.join("  "));
+        println!("{name:<10} {}", cells.join("  "));
     }
 }

@@ -1,5 +1,5 @@
 //! The example of examples/repair.c in Rust; both print the same lines. An object is stored as a box that keeps three of its
-//! seven nodes, and the others are planned, repaired and read out.
+//! seven nodes, the others are planned and repaired, and it is put away whole and read out.
 use mogtriz::{Refusal, SIMPLEX, Session, Step};
 
 const K: usize = 3;
@@ -17,6 +17,15 @@ fn main() -> Result<(), Refusal> {
     println!(
         "{} repaired in {} rounds, {} left",
         run.steps, run.rounds, run.left
+    );
+
+    // every live node is named: an empty list would give an empty box
+    let list = session.live_nodes_to_vec()?;
+    let whole = session.write_to_vec(&nodes, &list)?;
+    println!(
+        "put away a box of {} nodes, {} bytes",
+        list.len(),
+        whole.len()
     );
 
     match session.read_out_to_vec(&nodes) {
@@ -44,8 +53,9 @@ fn store(object: &[u8]) -> Result<Vec<u8>, Refusal> {
     let n = nodes.len() / LEN;
     println!("encoded {} bytes into {n} nodes", object.len());
 
-    let kept = Session::start(SIMPLEX, K, LEN, &[4, 5, 7])?;
-    let bytes = kept.write_to_vec(&nodes, &[])?;
+    let kept = [4, 5, 7];
+    let session = Session::start(SIMPLEX, K, LEN, &kept)?;
+    let bytes = session.write_to_vec(&nodes, &kept)?;
     println!("wrote a box of {} bytes", bytes.len());
     Ok(bytes)
 }

@@ -1,4 +1,4 @@
-//! Boxes: checked, read, written, and one node's body found in one; and the object read out.
+//! Boxes: checked, read, written, and one node's body found in one; the live nodes listed; and the object read out.
 use crate::{Refusal, Session, raw};
 
 /// The body of one node, as that part of the box; no copy is made.
@@ -89,9 +89,12 @@ impl Session {
 
     /// Writes a box and gives its length.
     ///
-    /// It takes a nodes buffer of exactly n × L bytes; a list of live nodes, a byte each, strictly rising, of which an empty
-    /// one stands for every live node; and a destination, of which what lies beyond the box is not written. A box of E nodes
-    /// takes 8 + E + E × L bytes ([`box_len`](Session::box_len)).
+    /// It takes a nodes buffer of exactly n × L bytes; a list of live nodes, a byte each, strictly rising; and a destination, of
+    /// which what lies beyond the box is not written. A box of E nodes takes 8 + E + E × L bytes
+    /// ([`box_len`](Session::box_len)).
+    ///
+    /// An empty list stands for no node, and gives a box of 8 bytes with E = 0. Whoever wants every live node names them all, by
+    /// [`live_nodes_into`](Session::live_nodes_into).
     ///
     /// # Errors
     ///
@@ -112,11 +115,50 @@ impl Session {
     /// assert_eq!(out[..length], *b"\x01\x03\x01\0\x02\0\0\0\x04\x07df");
     /// assert_eq!(out[length..], [0xaa; 2]);
     ///
+    /// let length = session.write(b"...de.f", &[], &mut out)?;
+    /// assert_eq!(out[..length], *b"\x01\x03\x01\0\0\0\0\0");
+    ///
     /// assert_eq!(session.write(b"...de.f", &[4, 6], &mut out), Err(Refusal::NodeMissing));
     /// # Ok::<(), mogtriz::Refusal>(())
     /// ```
     pub fn write(&self, nodes: &[u8], list: &[u8], out: &mut [u8]) -> Result<usize, Refusal> {
         let answer = raw::write(self.0, nodes, list, out);
+        Refusal::unless_served(answer.refusal)?;
+        Ok(answer.length)
+    }
+
+    /// Lists the live nodes, rising, a byte each, and gives their number. The list is one for [`write`](Session::write), which
+    /// makes a box of every live node of it, and for [`start`](Session::start).
+    ///
+    /// It takes a buffer, of which what lies beyond the list is not written; [`MOST_NODES`](crate::MOST_NODES) bytes are room for
+    /// any. [`live_nodes`](Session::live_nodes) goes through the marks of any content instead, and refuses none.
+    ///
+    /// # Errors
+    ///
+    /// The first of these that is met; nothing is written then.
+    ///
+    /// - 13, [`Refusal::NoSuchSession`]
+    /// - 6, [`Refusal::BufferLength`]: the buffer is shorter than the list
+    ///
+    /// ```
+    /// use mogtriz::{MOST_NODES, Refusal, SIMPLEX, Session};
+    /// let bytes = *b"\x01\x03\x01\0\x03\0\0\0\x04\x05\x07def";
+    /// let mut nodes = [0; 7];
+    /// let session = Session::read(&bytes, &mut nodes)?;
+    ///
+    /// // a box read and written with every live node has the same bytes
+    /// let mut list = [0; MOST_NODES];
+    /// let count = session.live_nodes_into(&mut list)?;
+    /// assert_eq!(list[..count], [4, 5, 7]);
+    /// let mut out = [0; 14];
+    /// session.write(&nodes, &list[..count], &mut out)?;
+    /// assert_eq!(out, bytes);
+    ///
+    /// assert_eq!(session.live_nodes_into(&mut list[..2]), Err(Refusal::BufferLength));
+    /// # Ok::<(), mogtriz::Refusal>(())
+    /// ```
+    pub fn live_nodes_into(&self, out: &mut [u8]) -> Result<usize, Refusal> {
+        let answer = raw::live_nodes(self.0, out);
         Refusal::unless_served(answer.refusal)?;
         Ok(answer.length)
     }

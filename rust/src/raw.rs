@@ -4,7 +4,7 @@
 use core::fmt;
 
 /// `MOGTRIZ_VERSION` of the header that this is declared from.
-pub const VERSION: usize = 3;
+pub const VERSION: usize = 4;
 
 /// How many marks a session holds, by node number.
 pub const MARKS: usize = 256;
@@ -30,7 +30,7 @@ pub struct Started {
     pub session: Session,
 }
 
-/// C's `mogtriz_written`: what writing a box gives, with the box's length.
+/// C's `mogtriz_written`: what writing a box and listing the live nodes give, with how many bytes are written.
 #[repr(C)]
 #[derive(Clone, Copy, Debug, PartialEq, Eq)]
 pub struct Written {
@@ -124,6 +124,7 @@ unsafe extern "C" {
         out: *mut u8,
         out_len: usize,
     ) -> Written;
+    fn mogtriz_live_nodes(session: Session, out: *mut u8, out_len: usize) -> Written;
     fn mogtriz_read_out(
         session: Session,
         nodes: *const u8,
@@ -204,6 +205,11 @@ pub fn write(session: Session, nodes: &[u8], list: &[u8], out: &mut [u8]) -> Wri
             out.len(),
         )
     }
+}
+
+pub fn live_nodes(session: Session, out: &mut [u8]) -> Written {
+    // SAFETY: as above.
+    unsafe { mogtriz_live_nodes(session, out.as_mut_ptr(), out.len()) }
 }
 
 pub fn read_out(session: Session, nodes: &[u8], object: &mut [u8]) -> ReadOut {

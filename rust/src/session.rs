@@ -148,7 +148,8 @@ impl Session {
         self.0.live.get(node) == Some(&1)
     }
 
-    /// The numbers that are marked live, rising; they are a list for [`start`](Session::start) and
+    /// The numbers that are marked live, rising, of a session of any content;
+    /// [`live_nodes_into`](Session::live_nodes_into) makes a list of them for [`start`](Session::start) and
     /// [`write`](Session::write).
     ///
     /// ```

@@ -1,5 +1,5 @@
 //! The calls that fill a buffer, giving a `Vec` of just the length instead.
-use crate::{PLAN_ROOM, Refusal, Repairs, Session, Step, encode, nodes_len};
+use crate::{MOST_NODES, PLAN_ROOM, Refusal, Repairs, Session, Step, encode, nodes_len};
 use alloc::vec;
 use alloc::vec::Vec;
 
@@ -51,8 +51,8 @@ impl Session {
         Ok((session, nodes))
     }
 
-    /// The box that [`write`](Session::write) makes of a nodes buffer of exactly n × L bytes and a list of live nodes, an
-    /// empty one standing for every live node. With the feature `alloc`.
+    /// The box that [`write`](Session::write) makes of a nodes buffer of exactly n × L bytes and a list of live nodes, of which
+    /// an empty one stands for no node. With the feature `alloc`.
     ///
     /// # Errors
     ///
@@ -66,20 +66,39 @@ impl Session {
     ///
     /// ```
     /// let session = mogtriz::Session::start(mogtriz::SIMPLEX, 3, 1, &[4, 5, 7])?;
-    /// let bytes = session.write_to_vec(b"...de.f", &[])?;
-    /// assert_eq!(bytes, b"\x01\x03\x01\0\x03\0\0\0\x04\x05\x07def");
+    /// let bytes = session.write_to_vec(b"...de.f", &[4, 7])?;
+    /// assert_eq!(bytes, b"\x01\x03\x01\0\x02\0\0\0\x04\x07df");
+    /// let empty = session.write_to_vec(b"...de.f", &[])?;
+    /// assert_eq!(empty, b"\x01\x03\x01\0\0\0\0\0");
     /// # Ok::<(), mogtriz::Refusal>(())
     /// ```
     pub fn write_to_vec(&self, nodes: &[u8], list: &[u8]) -> Result<Vec<u8>, Refusal> {
-        let held = match list.len() {
-            0 => self.live_nodes().count(),
-            // a longer list is turned away before the destination is looked at
-            count => count.min(self.node_count()?),
-        };
+        // a longer list is turned away before the destination is looked at
+        let held = list.len().min(self.node_count()?);
         let mut out = vec![0; self.box_len(held)?];
         let length = self.write(nodes, list, &mut out)?;
         out.truncate(length);
         Ok(out)
+    }
+
+    /// The list that [`live_nodes_into`](Session::live_nodes_into) makes: the live nodes, rising, a byte each. With the feature
+    /// `alloc`.
+    ///
+    /// # Errors
+    ///
+    /// - 13, [`Refusal::NoSuchSession`]
+    ///
+    /// ```
+    /// let session = mogtriz::Session::start(mogtriz::SIMPLEX, 3, 1, &[4, 5, 7])?;
+    /// let every_live_node = session.live_nodes_to_vec()?;
+    /// let bytes = session.write_to_vec(b"...de.f", &every_live_node)?;
+    /// assert_eq!(bytes, b"\x01\x03\x01\0\x03\0\0\0\x04\x05\x07def");
+    /// # Ok::<(), mogtriz::Refusal>(())
+    /// ```
+    pub fn live_nodes_to_vec(&self) -> Result<Vec<u8>, Refusal> {
+        let mut list = [0; MOST_NODES];
+        let count = self.live_nodes_into(&mut list)?;
+        Ok(list[..count].to_vec())
     }
 
     /// The object that [`read_out`](Session::read_out) copies from a nodes buffer of exactly n × L bytes: k × L bytes. With

@@ -52,6 +52,18 @@ fn encode_asks_for_the_lengths_of_object_and_nodes() -> Result<(), Refusal> {
     Ok(())
 }
 
+/// The list that is made of the live nodes, in just enough room; a byte less is turned away.
+fn every_live_node(session: &Session) -> Result<Vec<u8>, Refusal> {
+    let count = session.live_nodes().count();
+    let mut list = vec![0; count];
+    if count > 0 {
+        let refused = session.live_nodes_into(&mut list[1..]);
+        assert_eq!(refused, Err(Refusal::BufferLength), "{session:?}");
+    }
+    assert_eq!(session.live_nodes_into(&mut list)?, count, "{session:?}");
+    Ok(list)
+}
+
 #[test]
 fn write_asks_for_the_length_of_the_box() -> Result<(), Refusal> {
     for session in full_sessions() {
@@ -60,7 +72,8 @@ fn write_asks_for_the_length_of_the_box() -> Result<(), Refusal> {
         assert_eq!(node_count(family, k)?, n);
         assert_eq!(session.live_nodes().count(), n);
         let nodes = vec![7; session.nodes_len()?];
-        for (list, held) in [(&[][..], n), (&[1], 1), (&[1, 3], 2)] {
+        let all = every_live_node(&session)?;
+        for (list, held) in [(&[][..], 0), (&[1], 1), (&[1, 3], 2), (&all, n)] {
             let length = session.box_len(held)?;
             assert_eq!(box_len(family, k, len, held)?, length);
             let mut out = vec![0; length];
@@ -177,7 +190,8 @@ fn live_and_missing_nodes_are_all_nodes() -> Result<(), Refusal> {
         let others = all.iter().copied().filter(missing);
         assert!(session.missing_nodes().eq(others.clone()));
         assert!(session.missing_nodes().rev().eq(others.rev()));
-        let list: Vec<u8> = session.live_nodes().collect();
+        let list = every_live_node(&session)?;
+        assert!(session.live_nodes().eq(list.iter().copied()));
         assert_eq!(Session::start(family, k, 1, &list)?, session);
     }
     Ok(())

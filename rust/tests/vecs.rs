@@ -1,8 +1,8 @@
 //! The calls that give a `Vec` give what the calls with lent buffers do, refusals too.
 #![cfg(feature = "alloc")]
 use mogtriz::{
-    MARKS, MOST_LEN, PLAN_ROOM, Refusal, SIMPLEX, Session, TETRAHEDRON, WEIGHT_TWO, encode,
-    encode_to_vec,
+    MARKS, MOST_LEN, MOST_NODES, PLAN_ROOM, Refusal, SIMPLEX, Session, TETRAHEDRON, WEIGHT_TWO,
+    encode, encode_to_vec,
 };
 
 const CODES: [(usize, usize, usize); 4] = [
@@ -53,7 +53,7 @@ fn boxes_are_written_and_read_alike() -> Result<(), Refusal> {
     for session in CODES.into_iter().flat_map(sessions) {
         let nodes = bytes(session.nodes_len()?);
         let mut out = vec![0; session.box_len(session.node_count()?)?];
-        let live: Vec<u8> = session.live_nodes().collect();
+        let live = session.live_nodes_to_vec()?;
         for list in [&[][..], &live, &live[..live.len() / 2]] {
             let length = session.write(&nodes, list, &mut out)?;
             let written = session.write_to_vec(&nodes, list)?;
@@ -65,6 +65,17 @@ fn boxes_are_written_and_read_alike() -> Result<(), Refusal> {
         }
     }
     Ok(())
+}
+
+#[test]
+fn live_nodes_are_listed_alike() {
+    for session in CODES.into_iter().flat_map(sessions).chain([of_no_start()]) {
+        let mut out = [0; MOST_NODES];
+        let wanted = session
+            .live_nodes_into(&mut out)
+            .map(|count| out[..count].to_vec());
+        assert_eq!(session.live_nodes_to_vec(), wanted, "{session:?}");
+    }
 }
 
 #[test]

@@ -29,13 +29,14 @@ use Rattle.boxes.specs.Bodies.{boxOf, withBodies}
 use Rattle.repair.specs.declared.Session.{Session}
 use Rattle.repair.specs.Session.{sessionOf, acceptedStart, started, startChecks, nodeCountOf, noStart, nodesChecks}
 use Rattle.repair.specs.Boxed.{checkedBox, readChecks, readBox, nodesRead, writeChecks, written, outWritten}
+use Rattle.repair.specs.LiveNodes.{liveChecks, liveListed, outListed}
 use Rattle.repair.specs.Step.{stepChecks, stepped, nodesStepped}
 use Rattle.repair.specs.Repairs.{planIn}
 use Rattle.repair.proofs.StartLaws.{nodes-0}
 use Rattle.repair.proofs.RepairsLaws.{plan-made, run-made}
 use Rattle.listing.specs.Text.{decimal, field, firstLine, stepLine, lastLine, refusalLine}
 use Rattle.listing.specs.Listing.{answerOf, listingIn, listingOf}
-use Rattle.examples.specs.Examples.{Row, Encodes, Plans, Starts, BoxGives, BoxReads, BoxHolds, BoxLacks, BoxSteps, BoxWrites, Lists, allBut, HasPlan, Holds, Every, table, Examples}
+use Rattle.examples.specs.Examples.{Row, Encodes, Plans, Starts, BoxGives, BoxReads, BoxHolds, BoxLacks, BoxSteps, BoxWrites, BoxNames, Lists, allBut, HasPlan, Holds, Every, table, Examples}
 
 -- ---- a plan
 
@@ -112,6 +113,10 @@ Computed (BoxWrites box list other) =
     Each box (λ s nodes. (out : List ℕ) → ltb (length out) (length other) ≡ false
     → (written s (nodesRead box nodes) list out ≡ record { refusal = 0; length = length other; session = s })
     × (outWritten s (nodesRead box nodes) list out ≡ other ++ drop (length other) out))
+Computed (BoxNames box list) =
+    (out : List ℕ) → ltb (length out) (length list) ≡ false
+    → (liveListed (checkedBox box .session) out ≡ record { refusal = 0; length = length list; session = checkedBox box .session })
+    × (outListed (checkedBox box .session) out ≡ list ++ drop (length list) out)
 Computed (Lists box text) = Holds (Lists box text)
 
 -- and what follows
@@ -128,6 +133,7 @@ holds (BoxHolds box j start body) c = c
 holds (BoxLacks box j number) c = c
 holds (BoxSteps box j a b number) c = each _ _ c
 holds (BoxWrites box list other) c = each _ _ (λ byte out h. c byte out (le-ltb (length out) (length other) h))
+holds (BoxNames box list) c = λ out h. c out (le-ltb (length out) (length list) h)
 holds (Lists box text) c = c
 
 all-hold : (rows : List Row) → Every Computed rows → Every Holds rows
@@ -142,7 +148,7 @@ _&_ : {A B : Type 0} → A → B → A × B
 a & b = (a, b)
 
 computed : Every Computed table
-unfolding started refusalLine encodeChecks parameterChecks firstMet nodesBuffer joined nodeBlock columnOf nodeCount xorBytes zipWith startChecks checkedBox boxChecks someOutside rises setLive noStart liveOutside planOf roundsFrom isRepaired smallerNode largerNode firstFrom areRelated pairAt stepBytes lastRound getLastD nodesLeft thoseFrom someMissing stepsIn placeIn listFrom readBox nodesRead readChecks withBodies withBlock blockOf bodyChecks bodyOf writeChecks nodesChecks written outWritten boxOf flatMap stepChecks stepped nodesStepped listingOf answerOf listingIn firstLine stepLine lastLine field decimal
+unfolding started refusalLine encodeChecks parameterChecks firstMet nodesBuffer joined nodeBlock columnOf nodeCount xorBytes zipWith startChecks checkedBox boxChecks someOutside rises setLive noStart liveOutside planOf roundsFrom isRepaired smallerNode largerNode firstFrom areRelated pairAt stepBytes lastRound getLastD nodesLeft thoseFrom someMissing stepsIn placeIn listFrom readBox nodesRead readChecks withBodies withBlock blockOf bodyChecks bodyOf writeChecks nodesChecks written outWritten boxOf flatMap liveChecks liveListed outListed stepChecks stepped nodesStepped listingOf answerOf listingIn firstLine stepLine lastLine field decimal
 computed =
     (refl, refl)
     & (refl, λ byte. (refl, refl))
@@ -162,6 +168,11 @@ computed =
     & (refl, refl)
     & (λ byte out l. (rw l, rw l))
     & (λ byte out l. (rw l, rw l))
+    & (λ byte out l. (rw l, rw l))
+    & (refl, λ byte. (refl, refl))
+    & (λ byte out l. (rw l, rw l))
+    & (λ out l. (rw l, rw l))
+    & (λ out l. (rw l, rw l))
     & refl
     & (refl, refl)
     & (refl, refl)

@@ -15,6 +15,7 @@ use Rattle.boxes.specs.Box.{blockLengthIn, nodeCountIn, bodyChecks, bodyStart, 
 use Rattle.repair.specs.declared.Session.{Session}
 use Rattle.repair.specs.Session.{sessionOf, acceptedStart, started, nodeCountOf}
 use Rattle.repair.specs.Boxed.{checkedBox, readBox, nodesRead, written, outWritten}
+use Rattle.repair.specs.LiveNodes.{liveListed, outListed}
 use Rattle.repair.specs.Step.{stepped, nodesStepped}
 use Rattle.repair.specs.Repairs.{planned, outPlanned, ran, nodesRan}
 use Rattle.listing.specs.Text.{ascii}
@@ -42,6 +43,8 @@ pub data Row : Type 0 where
   BoxSteps : List ℕ → ℕ → ℕ → ℕ → ℕ → Row
   -- a box; a list of its nodes, and the box that is written by it of what was read
   BoxWrites : List ℕ → List ℕ → List ℕ → Row
+  -- a box, and the list that is made of its session's live nodes
+  BoxNames : List ℕ → List ℕ → Row
   -- a box, and what the lister prints of it
   Lists : List ℕ → String → Row
 
@@ -87,6 +90,10 @@ Holds (BoxWrites box list other) =
     InBox box (λ s nodes. (out : List ℕ) → length other ≤ length out
     → (written s (nodesRead box nodes) list out ≡ record { refusal = 0; length = length other; session = s })
     × (outWritten s (nodesRead box nodes) list out ≡ other ++ drop (length other) out))
+Holds (BoxNames box list) =
+    (out : List ℕ) → length list ≤ length out
+    → (liveListed (checkedBox box .session) out ≡ record { refusal = 0; length = length list; session = checkedBox box .session })
+    × (outListed (checkedBox box .session) out ≡ list ++ drop (length list) out)
 Holds (Lists box text) = listingOf box ≡ ascii text
 
 -- this is so of every row of a table
@@ -99,6 +106,10 @@ Every So (row ∷ rows) = So row × Every So rows
 -- document 01's box: 01 03 01 00 03 00 00 00 04 05 07 04 05 07
 abbrev pub sampleBox : List ℕ
 sampleBox = 1 ∷ 3 ∷ 1 ∷ 0 ∷ 3 ∷ 0 ∷ 0 ∷ 0 ∷ 4 ∷ 5 ∷ 7 ∷ 4 ∷ 5 ∷ 7 ∷ []
+
+-- a box of no node, of the same family, k and L
+abbrev pub emptyBox : List ℕ
+emptyBox = 1 ∷ 3 ∷ 1 ∷ 0 ∷ 0 ∷ 0 ∷ 0 ∷ 0 ∷ []
 
 -- the table
 abbrev pub table : List Row
@@ -133,9 +144,16 @@ table =
     -- From the box above, the body of node 5 is the part at byte 12; that of node 6, which is missing, gives 12 and an empty part
     ∷ BoxHolds sampleBox 5 12 (5 ∷ [])
     ∷ BoxLacks sampleBox 6 12
-    -- What was read from it, written again by the list 4, 5, 7, is the box, and by the list 5 the box of node 5 alone
+    -- What was read from it, written again by the list 4, 5, 7, is the box, by the list 5 the box of node 5 alone, and by an empty
+    -- list the box of no node (document 02, K7), which keeps every place when it is read, and its bytes when it is written again
     ∷ BoxWrites sampleBox (4 ∷ 5 ∷ 7 ∷ []) sampleBox
     ∷ BoxWrites sampleBox (5 ∷ []) (1 ∷ 3 ∷ 1 ∷ 0 ∷ 1 ∷ 0 ∷ 0 ∷ 0 ∷ 5 ∷ 5 ∷ [])
+    ∷ BoxWrites sampleBox [] emptyBox
+    ∷ BoxReads emptyBox (sessionOf 1 3 1 []) (λ was. was 1 ∷ was 2 ∷ was 3 ∷ was 4 ∷ was 5 ∷ was 6 ∷ was 7 ∷ [])
+    ∷ BoxWrites emptyBox [] emptyBox
+    -- The live nodes of either box's session, listed
+    ∷ BoxNames sampleBox (4 ∷ 5 ∷ 7 ∷ [])
+    ∷ BoxNames emptyBox []
     -- It makes the lister print, whole, these six lines
     ∷ Lists sampleBox "family 1 k 3 length 1 live 3\n1 1 4 5\n1 2 5 7\n1 3 4 7\n2 6 1 7\nsteps 4 rounds 2 left 0\n"
     -- Weight-two 4 and the tetrahedron with an object whose data block i is 2^(i − 1): each node holds its column

@@ -16,13 +16,14 @@ use Rattle.repair.specs.declared.Written.{Written}
 use Rattle.repair.specs.declared.ReadOut.{ReadOut}
 use Rattle.repair.specs.Step.{stepChecks, stepped}
 use Rattle.repair.specs.Repairs.{refusedRepairs, planChecks, planned, ran}
-use Rattle.repair.specs.Boxed.{writeChecks, written}
+use Rattle.repair.specs.Boxed.{refusedWrite, writeChecks, written}
+use Rattle.repair.specs.LiveNodes.{liveChecks, liveListed}
 use Rattle.repair.specs.ReadOut.{readOutChecks, readOut}
 use Rattle.repair.specs.Session.{nodesChecks}
 use Rattle.mogtriz.specs.declared.sessions.MarkedSession.{MarkedSession}
 use Rattle.mogtriz.specs.Sessions.{someAbove1, sessionForC}
 use Rattle.mogtriz.specs.Repairs.{handedBack, steppedC, ranC}
-use Rattle.repair.proofs.Refused.{refusedStep, refusedWrite, refusedOut}
+use Rattle.repair.proofs.Refused.{refusedStep, refusedOut}
 use Rattle.mogtriz.proofs.MarkLaws.{marks-low}
 
 -- what holds of both answers holds of the one that a test chooses
@@ -72,7 +73,7 @@ module _ (s : Session) where
   handed-on next refusal (inl e) = rw e
   handed-on next refusal (inr e) = rw e (either (λ (t : MarkedSession). t ≡ sessionForC s) (eqb refusal 0) refl refl)
 
-  -- plan, write and read out give it always
+  -- plan, write, live nodes and read out give it always
   pub plan-kept : (out : List ℕ) → planned s out .session ≡ s
   unfolding planned
   plan-kept out = answer-either (planChecks s out) _ (refusedRepairs s) (λ (r : Repairs). r .session ≡ s) refl (λ n. refl)
@@ -80,6 +81,10 @@ module _ (s : Session) where
   pub write-kept : (nodes list out : List ℕ) → written s nodes list out .session ≡ s
   unfolding written
   write-kept nodes list out = answer-either (writeChecks s nodes list out) _ (refusedWrite s) (λ (r : Written). r .session ≡ s) refl (λ n. refl)
+
+  pub live-kept : (out : List ℕ) → liveListed s out .session ≡ s
+  unfolding liveListed
+  live-kept out = answer-either (liveChecks s out) _ (refusedWrite s) (λ (r : Written). r .session ≡ s) refl (λ n. refl)
 
   pub read-out-kept : (nodes object : List ℕ) → readOut s nodes object .session ≡ s
   unfolding readOut

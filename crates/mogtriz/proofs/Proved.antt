@@ -1,27 +1,32 @@
 -- The claims of specs/Claims.antt: a session handed to C and back, the session in an answer, and the calls that agree.
 -- Assumes nothing.
-use mathlib.Core.Path.{_≡_, refl, sym}
+use mathlib.Core.Path.{_≡_, refl, sym, ap, _∙_}
 use mathlib.Core.Bool.{Bool, true, false}
 use mathlib.Core.Logic.{_⊎_, inl, inr}
+use mathlib.Core.List.{map}
 use Prim.Native.Nat.{ℕ}
+use native.Mathlib.Omega.{arith}
 use borrow.Author.Tests.{eqb-true, eqb-false, le-leb}
 use lib.Dec.{eqb}
+use lib.ListN.{take, length-map}
 use Rattle.checks.specs.Checks.{firstMet}
 use Rattle.families.specs.Families.{familyOf, IsNode, nodeCount, nodeOf}
 use Rattle.checks.specs.Claims.{InRange}
 use Rattle.checks.proofs.Laws.{range-claim}
 use Rattle.boxes.specs.Box.{bodyChecks, bodyOf}
 use Rattle.checks.specs.Parameters.{parameterChecks}
-use Rattle.repair.specs.Session.{noStart}
+use Rattle.repair.specs.Session.{sessionWith, started, noStart}
+use Rattle.repair.specs.LiveNodes.{outListed}
+use Rattle.repair.proofs.Proved.{live-list-claim}
 use Rattle.repair.proofs.RefusalsProved.{refusal-claim, thirteen-claim}
 use Rattle.mogtriz.specs.declared.sessions.MarkedSession.{MarkedSession}
-use Rattle.mogtriz.specs.Sessions.{someAbove1, sessionOfC, writtenC, readOutC, partIn}
+use Rattle.mogtriz.specs.Sessions.{markOf, someAbove1, sessionOfC, startedC, writtenC, liveListedC, readOutC, partIn}
 use Rattle.mogtriz.specs.Exports.{nodeCountOr0, isNode, columnOr0, nodeOr0, relatedOr0}
 use Rattle.mogtriz.specs.Repairs.{steppedC, plannedC, ranC}
-use Rattle.mogtriz.specs.Claims.{ThereAndBackClaim, BackAndThereClaim, StartedMarksClaim, HandedBackClaim, RefusedStartClaim, TurnedAwayClaim, ThirteenC, ThirteenCClaim, SameFieldsClaim, PartOf, PartClaim, AnswersClaim, AgreeClaim}
+use Rattle.mogtriz.specs.Claims.{ThereAndBackClaim, BackAndThereClaim, StartedMarksClaim, HandedBackClaim, RefusedStartClaim, TurnedAwayClaim, ThirteenC, ThirteenCClaim, LiveListCClaim, SameFieldsClaim, PartOf, PartClaim, AnswersClaim, AgreeClaim}
 use Rattle.mogtriz.proofs.Laws.{count-accepted}
 use Rattle.mogtriz.proofs.MarkLaws.{marks-back, bytes-back, marks-low}
-use Rattle.mogtriz.proofs.AnswerLaws.{kept-session, step-low, run-low, step-done, run-done, handed-on, plan-kept, write-kept, read-out-kept}
+use Rattle.mogtriz.proofs.AnswerLaws.{kept-session, step-low, run-low, step-done, run-done, handed-on, plan-kept, write-kept, live-kept, read-out-kept}
 
 pub there-and-back : ThereAndBackClaim
 unfolding sessionOfC
@@ -35,13 +40,14 @@ pub started-marks-claim : StartedMarksClaim
 started-marks-claim answer = marks-low (answer .session .live)
 
 pub handed-back-claim : HandedBackClaim
-unfolding plannedC writtenC readOutC
+unfolding plannedC writtenC liveListedC readOutC
 handed-back-claim s =
     record {
       step-marks = step-low s;
       run-marks = run-low s;
       plan = λ out. refl;
       write = λ nodes list out. refl;
+      live = λ out. refl;
       read-out = λ nodes object. refl;
     }
 
@@ -50,7 +56,7 @@ refused-start-claim number = refl
 
 -- by what the session's own operation gives
 pub turned-away-claim : TurnedAwayClaim
-unfolding steppedC plannedC ranC writtenC readOutC
+unfolding steppedC plannedC ranC writtenC liveListedC readOutC
 turned-away-claim s =
     let own = refusal-claim in
     record {
@@ -58,6 +64,7 @@ turned-away-claim s =
       plan = λ out h. let r = own .plan (sessionOfC s) out h in (rw (r .0), r .1);
       run = λ nodes h. let r = own .run (sessionOfC s) nodes h in (rw (kept-session s _ _ h, r .0), r .1);
       write = λ nodes list out h. let r = own .write (sessionOfC s) nodes list out h in (rw (r .0), r .1);
+      live = λ out h. let r = own .live (sessionOfC s) out h in (rw (r .0), r .1);
       read-out = λ nodes object h. let r = own .read-out (sessionOfC s) nodes object h in (rw (r .0), r .1);
     }
 
@@ -67,17 +74,30 @@ unfolding sessionOfC noStart parameterChecks firstMet
 no-start s h = rw h
 
 pub thirteen-c-claim : ThirteenCClaim
-unfolding steppedC plannedC ranC writtenC readOutC
+unfolding steppedC plannedC ranC writtenC liveListedC readOutC
 thirteen-c-claim s due = go due
   where
     own : noStart (sessionOfC s) ≡ true → ThirteenC s
     own n =
         let t = thirteen-claim (sessionOfC s) n in
-        record { step = t .step; plan = t .plan; run = t .run; write = t .write; read-out = t .read-out }
+        record { step = t .step; plan = t .plan; run = t .run; write = t .write; live = t .live; read-out = t .read-out }
 
     go : (someAbove1 (s .live) ≡ true) ⊎ (noStart (sessionOfC s) ≡ true) → ThirteenC s
     go (inl above) = own (no-start s above)
     go (inr n) = own n
+
+-- one that is accepted has no byte above 1, so that it is C's again once it is handed out
+pub live-list-c-claim : LiveListCClaim
+unfolding liveListedC sessionOfC
+live-list-c-claim s out size h = go (someAbove1 (s .live)) refl
+  where
+    go : (above : Bool) → someAbove1 (s .live) ≡ above
+        → startedC (started (s .family) (s .k) (s .len) (take (liveListedC s out .length) (outListed (sessionOfC s) out))) ≡ record { refusal = 0; session = s }
+    go true e = absurd (omega (arith, h, thirteen-c-claim s (inl e) .live out))
+    go false e =
+        let is : sessionOfC s ≡ sessionWith (s .family) (s .k) (s .len) (map markOf (s .live)) = rw e in
+        let starts = live-list-claim (sessionWith (s .family) (s .k) (s .len) (map markOf (s .live))) out (rw is at h) .start (length-map (s .live) markOf ∙ size) in
+        rw is (ap startedC starts ∙ ap (λ (t : MarkedSession). record { refusal = 0; session = t }) (rw is at (back-and-there s e)))
 
 pub part-claim : PartClaim
 unfolding partIn bodyOf
@@ -115,7 +135,7 @@ answers-claim family k range =
 
 -- a session in C's form is the session again once it is taken in
 pub agree-claim : AgreeClaim
-unfolding steppedC plannedC ranC writtenC readOutC
+unfolding steppedC plannedC ranC writtenC liveListedC readOutC
 agree-claim s =
     let back = there-and-back s in
     record {
@@ -123,5 +143,6 @@ agree-claim s =
       plan = λ out. rw (back, plan-kept s out);
       run = λ nodes. rw (back, handed-on s _ _ (run-done s nodes));
       write = λ nodes list out. rw (back, write-kept s nodes list out);
+      live = λ out. rw (back, live-kept s out);
       read-out = λ nodes object. rw (back, read-out-kept s nodes object);
     }

@@ -20,6 +20,7 @@ use Rattle.repair.specs.declared.Started.{Started}
 use Rattle.repair.specs.Session.{refusedStart, started, noStart}
 use Rattle.repair.specs.Refusals.{Refused}
 use Rattle.repair.specs.Boxed.{readBox, nodesRead, written, outWritten}
+use Rattle.repair.specs.LiveNodes.{liveListed, outListed}
 use Rattle.repair.specs.ReadOut.{missingIn, readOut, objectOut}
 use Rattle.repair.specs.Step.{stepped, nodesStepped}
 use Rattle.repair.specs.Repairs.{planned, outPlanned, ran, nodesRan}
@@ -27,7 +28,7 @@ use Rattle.repair.specs.Calls.{Move, run, State, Call, liveAfter, stateAfter}
 use Rattle.repair.specs.RepairClaims.{LiveAreOwn}
 use Rattle.repair.specs.WholeWay.{LowestOpen, NoneOpen, Way, startOf, nodesEncoded}
 use Rattle.mogtriz.specs.declared.sessions.MarkedSession.{MarkedSession}
-use Rattle.mogtriz.specs.Sessions.{someAbove1, sessionForC, sessionOfC, startedC, writtenC, readOutC, partIn}
+use Rattle.mogtriz.specs.Sessions.{someAbove1, sessionForC, sessionOfC, startedC, writtenC, liveListedC, readOutC, partIn}
 use Rattle.mogtriz.specs.Repairs.{steppedC, plannedC, ranC}
 use Rattle.mogtriz.specs.Exports.{nodeCountOr0, columnOr0, nodeOr0, relatedOr0}
 use Rattle.mogtriz.specs.Calls.{calledC, lastSessionC}
@@ -62,9 +63,10 @@ pub record HandedBack (s : MarkedSession) : Type 0 where
   -- a step or a run that is accepted gives no byte above 1
   pub step-marks : (nodes : List ℕ) (j a b : ℕ) → steppedC s nodes j a b .refusal ≡ 0 → someAbove1 (steppedC s nodes j a b .session .live) ≡ false
   pub run-marks : (nodes : List ℕ) → ranC s nodes .refusal ≡ 0 → someAbove1 (ranC s nodes .session .live) ≡ false
-  -- plan, write and read out give the session as it was handed in, byte for byte, accepted or not
+  -- plan, write, live nodes and read out give the session as it was handed in, byte for byte, accepted or not
   pub plan : (out : List ℕ) → plannedC s out .session ≡ s
   pub write : (nodes list out : List ℕ) → writtenC s nodes list out .session ≡ s
+  pub live : (out : List ℕ) → liveListedC s out .session ≡ s
   pub read-out : (nodes object : List ℕ) → readOutC s nodes object .session ≡ s
 
 abbrev pub HandedBackClaim : Type 0
@@ -86,6 +88,8 @@ pub record TurnedAway (s : MarkedSession) : Type 0 where
       → (ranC s nodes ≡ record { refusal = ranC s nodes .refusal; steps = 0; rounds = 0; left = 0; session = s }) × (nodesRan (sessionOfC s) nodes ≡ nodes)
   pub write : (nodes list out : List ℕ) → Refused (writtenC s nodes list out .refusal)
       → (writtenC s nodes list out ≡ record { refusal = writtenC s nodes list out .refusal; length = 0; session = s }) × (outWritten (sessionOfC s) nodes list out ≡ out)
+  pub live : (out : List ℕ) → Refused (liveListedC s out .refusal)
+      → (liveListedC s out ≡ record { refusal = liveListedC s out .refusal; length = 0; session = s }) × (outListed (sessionOfC s) out ≡ out)
   pub read-out : (nodes object : List ℕ) → Refused (readOutC s nodes object .refusal)
       → (readOutC s nodes object ≡ record { refusal = readOutC s nodes object .refusal; block = cond (eqb (readOutC s nodes object .refusal) 14) (missingIn (sessionOfC s)) 0; session = s })
       × (objectOut (sessionOfC s) nodes object ≡ object)
@@ -99,6 +103,7 @@ pub record ThirteenC (s : MarkedSession) : Type 0 where
   pub plan : (out : List ℕ) → plannedC s out .refusal ≡ 13
   pub run : (nodes : List ℕ) → ranC s nodes .refusal ≡ 13
   pub write : (nodes list out : List ℕ) → writtenC s nodes list out .refusal ≡ 13
+  pub live : (out : List ℕ) → liveListedC s out .refusal ≡ 13
   pub read-out : (nodes object : List ℕ) → readOutC s nodes object .refusal ≡ 13
 
 -- where a byte is above 1, or no start gives the session
@@ -128,6 +133,10 @@ pub record Agree (s : Session) : Type 0 where
   pub write : (nodes list out : List ℕ)
       → let own = written s nodes list out in
       writtenC (sessionForC s) nodes list out ≡ record { refusal = own .refusal; length = own .length; session = sessionForC (own .session) }
+  -- mogtriz_live_nodes
+  pub live : (out : List ℕ)
+      → let own = liveListed s out in
+      liveListedC (sessionForC s) out ≡ record { refusal = own .refusal; length = own .length; session = sessionForC (own .session) }
   -- mogtriz_read_out
   pub read-out : (nodes object : List ℕ)
       → let own = readOut s nodes object in
@@ -135,6 +144,13 @@ pub record Agree (s : Session) : Type 0 where
 
 abbrev pub AgreeClaim : Type 0
 AgreeClaim = (s : Session) → Agree s
+
+-- ---- the live nodes, listed
+
+-- mogtriz_start by the list that an accepted mogtriz_live_nodes leaves gives the session
+abbrev pub LiveListCClaim : Type 0
+LiveListCClaim = (s : MarkedSession) (out : List ℕ) → length (s .live) ≡ 256 → liveListedC s out .refusal ≡ 0
+    → startedC (started (s .family) (s .k) (s .len) (take (liveListedC s out .length) (outListed (sessionOfC s) out))) ≡ record { refusal = 0; session = s }
 
 -- ---- the body of a node
 

@@ -8,8 +8,10 @@ use Rattle.lists.specs.Lists.{noneLive}
 use Rattle.boxes.specs.Box.{blockLengthIn, bodyChecks, bodyStart}
 use Rattle.repair.specs.declared.Session.{Session}
 use Rattle.repair.specs.declared.Started.{Started}
+use Rattle.repair.specs.declared.Written.{Written}
 use Rattle.repair.specs.Session.{sessionWith}
 use Rattle.repair.specs.Boxed.{written}
+use Rattle.repair.specs.LiveNodes.{liveListed}
 use Rattle.repair.specs.ReadOut.{readOut}
 use Rattle.mogtriz.specs.declared.sessions.MarkedSession.{MarkedSession}
 use Rattle.mogtriz.specs.declared.sessions.StartAnswer.{StartAnswer}
@@ -44,9 +46,17 @@ sessionOfC s =
 abbrev pub startedC : Started → StartAnswer
 startedC own = record { refusal = own .refusal; session = sessionForC (own .session) }
 
+-- a refusal's number and a length, with the session that C gets
+abbrev pub lengthC : Written → MarkedSession → WriteAnswer
+lengthC own given = record { refusal = own .refusal; length = own .length; session = given }
+
 -- what writing gives: the session as handed in
 unfoldable pub writtenC : MarkedSession → List ℕ → List ℕ → List ℕ → WriteAnswer
-writtenC s nodes list out = let own = written (sessionOfC s) nodes list out in record { refusal = own .refusal; length = own .length; session = s }
+writtenC s nodes list out = lengthC (written (sessionOfC s) nodes list out) s
+
+-- what listing the live nodes gives, likewise
+unfoldable pub liveListedC : MarkedSession → List ℕ → WriteAnswer
+liveListedC s out = lengthC (liveListed (sessionOfC s) out) s
 
 -- what reading out gives, likewise
 unfoldable pub readOutC : MarkedSession → List ℕ → List ℕ → ReadOutAnswer

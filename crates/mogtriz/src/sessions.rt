@@ -1,12 +1,14 @@
 // Sessions and boxes from C. A session's marks come as bytes, since another value than 0 or 1 in a `bool` is undefined: a
-// session with a byte above 1 is one that no start gives. Each call is the session's own, and write and read out hand the session
-// back as it came, byte for byte.
+// session with a byte above 1 is one that no start gives. Each call is the session's own, and write, live nodes and read out hand
+// the session back as it came, byte for byte.
 use repair::Session;
+use repair::Written;
 ghost use mathlib.Core.Path.{_≡_};
 ghost use mathlib.Core.List.{map};
-ghost use Rattle.mogtriz.specs.Sessions.{byteOf, markOf, someAbove1, sessionForC, sessionOfC, startedC, writtenC, readOutC, partIn};
+ghost use Rattle.mogtriz.specs.Sessions.{byteOf, markOf, someAbove1, sessionForC, sessionOfC, startedC, lengthC, writtenC, liveListedC, readOutC, partIn};
 ghost use Rattle.repair.specs.Session.{started};
 ghost use Rattle.repair.specs.Boxed.{checkedBox, readBox, nodesRead, outWritten};
+ghost use Rattle.repair.specs.LiveNodes.{outListed};
 ghost use Rattle.repair.specs.ReadOut.{objectOut};
 
 // C's mogtriz_session.
@@ -197,6 +199,17 @@ pub extern "C" fn mogtriz_body(bytes: &[u8], node: usize) -> Part
     }
 }
 
+// The number of bytes written, with the session as handed in.
+fn length_for_c(answer: Written, session: MarkedSession) -> WriteAnswer
+    ensures { λ r. ⌜ r ≡ lengthC answer session ⌝ }
+{
+    WriteAnswer {
+        refusal: answer.refusal,
+        length: answer.length,
+        session: session,
+    }
+}
+
 // A box of the listed live nodes.
 #[no_mangle]
 pub extern "C" fn mogtriz_write(
@@ -209,11 +222,17 @@ pub extern "C" fn mogtriz_write(
     ensures { λ _. ⌜ now (out .exit) ≡ outWritten (sessionOfC session) (now (nodes .entry)) (now (list .entry)) (now (out .entry)) ⌝ }
 {
     let answer = session.session().write(nodes, list, out);
-    WriteAnswer {
-        refusal: answer.refusal,
-        length: answer.length,
-        session: session,
-    }
+    length_for_c(answer, session)
+}
+
+// The live nodes, rising, a byte each.
+#[no_mangle]
+pub extern "C" fn mogtriz_live_nodes(session: MarkedSession, out: &mut [u8]) -> WriteAnswer
+    ensures { λ r. ⌜ r ≡ liveListedC session (now (out .entry)) ⌝ }
+    ensures { λ _. ⌜ now (out .exit) ≡ outListed (sessionOfC session) (now (out .entry)) ⌝ }
+{
+    let answer = session.session().live_nodes(out);
+    length_for_c(answer, session)
 }
 
 // The k data blocks.

@@ -2,7 +2,7 @@
 -- boxes and sessions is claims alone.
 -- Assumes nothing.
 use mathlib.Core.Path.{_≡_, refl, ap, _∙_}
-use mathlib.Core.List.{List, [], _∷_}
+use mathlib.Core.List.{List, _∷_}
 use Prim.Native.Nat.{ℕ, zero, suc, _*_, _≤_, _<_}
 use native.Mathlib.Omega.{arith}
 use borrow.Author.Tests.{lt-ltb, le-ltb}
@@ -17,11 +17,12 @@ use Rattle.repair.specs.declared.Session.{Session}
 use Rattle.repair.specs.declared.Started.{Started}
 use Rattle.repair.specs.Session.{nodeCountOf}
 use Rattle.repair.specs.Boxed.{sessionIn, checkedBox, readBox, nodesRead}
+use Rattle.repair.specs.LiveNodes.{liveListed}
 use Rattle.repair.specs.Repairs.{ran, nodesRan}
 use Rattle.repair.specs.Calls.{run}
-use Rattle.repair.specs.Claims.{WriteReadClaims}
+use Rattle.repair.specs.Claims.{WriteReadClaims, listLeft, LiveListClaims}
 use Rattle.repair.specs.WholeWay.{Fits, SameCode}
-use Rattle.repair.proofs.Proved.{box-start-claim, write-read-claim}
+use Rattle.repair.proofs.Proved.{box-start-claim, write-read-claim, live-list-claim}
 use Rattle.repair.proofs.WholeWayProved.{fits-claim}
 use Rattle.listing.specs.Text.{tooLongLine}
 use Rattle.listing.proofs.ListingLaws.{Accepted, answered}
@@ -84,12 +85,26 @@ module _ (input : List ℕ) (passes : checkedBox input .refusal ≡ 0) where
         let s = fits-claim .same given buffer run in
         record { marks = cc; starts = cc; size = cc }
 
-    module _ (out : List ℕ) (room : boxLength (nodeCountIn input) (blockLengthIn input) ≤ length out) where
-      enough : boxLength (nodeCountOf (afterRun given buffer)) (afterRun given buffer .len) ≤ length out
-      enough = rw (same .family, same .k, same .len, session-is) room
+    abbrev next : Session
+    next = afterRun given buffer
 
-      pub written-claims : WriteReadClaims (afterRun given buffer) (nodesRan given buffer) [] out
-      written-claims = write-read-claim (afterRun given buffer) (nodesRan given buffer) [] out (fits-claim .write (afterRun given buffer) (nodesRan given buffer) out after-fits enough)
+    -- a buffer of 255 bytes has room for the live nodes
+    module _ (lent : List ℕ) (long : length lent ≡ 255) where
+      pub lists : liveListed next lent .refusal ≡ 0
+      lists =
+          let few : nodeCountOf next ≤ 255 = rw (same .family, same .k, session-is) (nodes-most .0) in
+          fits-claim .list next (nodesRan given buffer) lent after-fits (omega (arith, long))
+
+      pub listed-claims : LiveListClaims next lent
+      listed-claims = live-list-claim next lent lists
+
+      module _ (out : List ℕ) (room : boxLength (nodeCountIn input) (blockLengthIn input) ≤ length out) where
+        enough : boxLength (nodeCountOf next) (next .len) ≤ length out
+        enough = rw (same .family, same .k, same .len, session-is) room
+
+        pub written-claims : WriteReadClaims next (nodesRan given buffer) (listLeft next lent) out
+        written-claims =
+            write-read-claim next (nodesRan given buffer) (listLeft next lent) out (fits-claim .write next (nodesRan given buffer) lent out after-fits lists enough)
 
 -- ---- what the refiller writes
 

@@ -22,10 +22,11 @@ use Rattle.repair.specs.declared.Started.{Started}
 use Rattle.repair.specs.declared.Written.{Written}
 use Rattle.repair.specs.declared.Repairs.{Repairs}
 use Rattle.repair.specs.Session.{nodeCountOf}
-use Rattle.repair.specs.Boxed.{sessionIn, checkedBox, readBox, nodesRead, listed, written}
+use Rattle.repair.specs.Boxed.{sessionIn, checkedBox, readBox, nodesRead, written}
+use Rattle.repair.specs.LiveNodes.{liveNodesOf}
 use Rattle.repair.specs.Repairs.{ran, nodesRan}
 use Rattle.repair.specs.Calls.{run, sessionAfterAll, stateAfter}
-use Rattle.repair.specs.Claims.{boxWritten, WriteReadClaims}
+use Rattle.repair.specs.Claims.{boxWritten, WriteReadClaims, listLeft, LiveListClaims}
 use Rattle.repair.specs.RepairClaims.{LiveAreOwn, RunAgain}
 use Rattle.repair.specs.WholeWay.{SameCode, BodiesAreOwn}
 use Rattle.repair.proofs.Proved.{start-marks-claim, box-start-claim, write-read-claim, read-write-claim, read-body-claim, written-body-claim}
@@ -34,13 +35,13 @@ use Rattle.repair.proofs.WholeWayProved.{write-live-claim, own-box-claim, missi
 use Rattle.listing.proofs.ListingLaws.{Accepted}
 use Rattle.refilling.specs.Refilled.{afterRun, boxAfterRun, nodesGiven, refilledOf}
 use Rattle.refilling.specs.Claims.{RefilledClaim}
-use Rattle.refilling.proofs.Laws.{box, session-is, same, read-is, reads, buffer-fits, runs, after-fits, written-claims, refilled-is}
+use Rattle.refilling.proofs.Laws.{box, session-is, same, read-is, reads, buffer-fits, runs, after-fits, listed-claims, written-claims, refilled-is}
 
 -- ---- what is written of an accepted box that is not too long
 
 -- the box of all live nodes of a session
 abbrev liveBox : Session → List ℕ → List ℕ
-liveBox s nodes = boxOf (s .family) (s .k) (s .len) (listed s []) nodes
+liveBox s nodes = boxOf (s .family) (s .k) (s .len) (liveNodesOf s) nodes
 
 module _ (input : List ℕ) (passes : checkedBox input .refusal ≡ 0) (short : boxLength (nodeCountIn input) (blockLengthIn input) ≤ 65536) where
   abbrev given : Session
@@ -72,8 +73,18 @@ module _ (input : List ℕ) (passes : checkedBox input .refusal ≡ 0) (short : 
   room-fits : length room ≡ boxLength (nodeCountIn input) (blockLengthIn input)
   room-fits = length-replicate (boxLength (nodeCountIn input) (blockLengthIn input)) 0
 
-  wrote : WriteReadClaims next after [] room
-  wrote = written-claims input passes zeros zeros-fit room (omega (arith, room-fits))
+  -- by the list of its live nodes
+  abbrev lent : List ℕ
+  lent = replicate 255 0
+
+  lists : LiveListClaims next lent
+  lists = listed-claims input passes zeros zeros-fit lent refl
+
+  abbrev names : List ℕ
+  names = listLeft next lent
+
+  wrote : WriteReadClaims next after names room
+  wrote = written-claims input passes zeros zeros-fit lent refl room (omega (arith, room-fits))
 
   accepted-input : Accepted input
   accepted-input =
@@ -87,15 +98,18 @@ module _ (input : List ℕ) (passes : checkedBox input .refusal ≡ 0) (short : 
   unfolding boxAfterRun nodesGiven
   is-box = refilled-is input accepted-input short
 
-  is-written : refilled ≡ boxWritten next after [] room
-  is-written = is-box ∙ sym (wrote .box)
+  is-written : refilled ≡ boxWritten next after names room
+  is-written = is-box ∙ ap (λ (list : List ℕ). boxOf (next .family) (next .k) (next .len) list after) (sym (lists .is)) ∙ sym (wrote .box)
 
-  writes : written next after [] room .refusal ≡ 0
+  writes : written next after names room .refusal ≡ 0
   writes = ap (λ (r : Written). r .refusal) (wrote .answer)
+
+  names-are : namesIn refilled ≡ names
+  names-are = ap namesIn is-written ∙ wrote .names
 
   -- its session is the one that it was written from
   checked : checkedBox refilled ≡ record { refusal = 0; session = next }
-  checked = ap checkedBox is-written ∙ write-live-claim next after room (after-fits input passes zeros zeros-fit .marks) writes
+  checked = ap checkedBox is-written ∙ write-live-claim next after lent room (after-fits input passes zeros zeros-fit .marks) (ap (λ (r : Written). r .refusal) (lists .answer)) writes
 
   accepted : checkedBox refilled .refusal ≡ 0
   accepted = ap (λ (r : Started). r .refusal) checked
@@ -151,15 +165,12 @@ module _ (input : List ℕ) (passes : checkedBox input .refusal ≡ 0) (short : 
     at : Named refilled node
     at = box-start-claim refilled accepted .named node (low node is-node) .0 (rw checked (live-stays given buffer run node live-before))
 
-    names-are : namesIn refilled ≡ listed next []
-    names-are = ap namesIn is-written ∙ wrote .names
-
     -- written, it is the node's block, which the run left as it was read
     block-written : bodyOf refilled node ≡ blockOf (next .len) after node
     block-written =
-        let there : getD (listed next []) (at .place) 0 ≡ node = ap (λ (l : List ℕ). getD l (at .place) 0) (sym names-are) ∙ at .there in
-        let within : at .place < length (listed next []) = omega (arith, at .within, box refilled accepted .names-size, ap length names-are) in
-        ap (λ (b : List ℕ). bodyOf b node) is-written ∙ rw there at (written-body-claim next after [] room writes (at .place) within)
+        let there : getD names (at .place) 0 ≡ node = ap (λ (l : List ℕ). getD l (at .place) 0) (sym names-are) ∙ at .there in
+        let within : at .place < length names = omega (arith, at .within, box refilled accepted .names-size, ap length names-are) in
+        ap (λ (b : List ℕ). bodyOf b node) is-written ∙ rw there at (written-body-claim next after names room writes (at .place) within)
 
     keeps : bodyOf refilled node ≡ bodyOf input node
     keeps =
@@ -177,7 +188,7 @@ module _ (input : List ℕ) (passes : checkedBox input .refusal ≡ 0) (short : 
       let read-own : LiveAreOwn object given buffer
       = subst (λ (r : Started). LiveAreOwn object (r .session) buffer) (read-is input passes zeros zeros-fit) (c .read object input zeros bodies (reads input passes zeros zeros-fit)) in
       let moved = own-claim object given buffer (buffer-fits input passes zeros zeros-fit .marks) (size ∙ ap (λ (s : Session). s .k * s .len) (sym given-is)) read-own (run ∷ []) in
-      subst (BodiesAreOwn object) (sym is-written) (c .write object next after [] room (moved .live) writes)
+      subst (BodiesAreOwn object) (sym is-written) (c .write object next after names room (moved .live) writes)
 
 -- ---- refilled again
 
@@ -225,11 +236,12 @@ module _ (input : List ℕ) (passes : checkedBox input .refusal ≡ 0) (short : 
   again : refilledOf first ≡ first
   again =
       let w = read-write-claim first (zeros first passes-again short-again) first low-byte reads-again (omega arith) .0 in
+      let own-list = sym (lists input passes short .is) ∙ sym (names-are input passes short) in
       is-box first passes-again short-again
       ∙ ap (λ (r : Started). liveBox (afterRun (r .session) read-again) (nodesRan (r .session) read-again)) (checked input passes short)
       ∙ ap₂ (λ (r : Repairs) (b : List ℕ). liveBox (r .session) b) (quiet .answer) (quiet .nodes-are)
-      ∙ ap (λ (s : Session). liveBox s read-again) (sym (session-kept input passes short))
-      ∙ sym (write-read-claim (sessionIn first) read-again [] first (ap (λ (r : Written). r .refusal) (w .answer)) .box)
+      ∙ ap₂ (λ (s : Session) (list : List ℕ). boxOf (s .family) (s .k) (s .len) list read-again) (sym (session-kept input passes short)) own-list
+      ∙ sym (write-read-claim (sessionIn first) read-again (namesIn first) first (ap (λ (r : Written). r .refusal) (w .answer)) .box)
       ∙ w .box
 
 pub refilled-claim : RefilledClaim

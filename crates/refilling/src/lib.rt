@@ -15,8 +15,8 @@ fn no_blocks() -> [u8; 65536]
     [0u8; 65536]
 }
 
-// An accepted box is read into the nodes buffer, its plan is run, and the box of all live nodes is put at the front of `out`;
-// gives its length.
+// An accepted box is read into the nodes buffer, its plan is run, every live node is named, and the box of them is put at the front
+// of `out`; gives its length.
 fn put_refilled(input: &[u8], nodes: &mut [u8], out: &mut [u8]) -> usize
     requires { ⌜ checkedBox (now input) .refusal ≡ 0 ⌝ }
     requires { ⌜ length (now nodes) ≡ nodeCountIn (now input) * blockLengthIn (now input) ⌝ }
@@ -29,7 +29,9 @@ fn put_refilled(input: &[u8], nodes: &mut [u8], out: &mut [u8]) -> usize
     let session = read.session;
     let repaired = session.run(nodes);
     let next = repaired.session;
-    let written = next.write(nodes, b"", out);
+    let mut list = [0u8; 255];
+    let listed = next.live_nodes(&mut list);
+    let written = next.write(nodes, &list[..listed.length], out);
     written.length
 }
 

@@ -13,11 +13,12 @@ use Rattle.repair.specs.declared.Stepped.{Stepped}
 use Rattle.repair.specs.declared.Repairs.{Repairs}
 use Rattle.repair.specs.declared.ReadOut.{ReadOut}
 use Rattle.repair.specs.Session.{refusedStart, startChecks, started, nodesChecks}
-use Rattle.repair.specs.Boxed.{checkedBox, readChecks, readBox, writeChecks, written}
+use Rattle.repair.specs.Boxed.{checkedBox, readChecks, readBox, refusedWrite, writeChecks, written}
+use Rattle.repair.specs.LiveNodes.{liveChecks, liveListed}
 use Rattle.repair.specs.ReadOut.{readOutChecks, readOut}
 use Rattle.repair.specs.Step.{stepChecks, stepped}
 use Rattle.repair.specs.Repairs.{refusedRepairs, planChecks, planned, ran}
-use Rattle.repair.proofs.Refused.{refusedStep, refusedWrite, refusedOut}
+use Rattle.repair.proofs.Refused.{refusedStep, refusedOut}
 use lib.ListN.{length}
 
 pub start-accepted : (family k L : ℕ) (list : List ℕ) → started family k L list .refusal ≡ 0 → firstMet (startChecks family k L list) ≡ 0
@@ -36,6 +37,10 @@ pub write-accepted : (s : Session) (nodes list out : List ℕ) → written s nod
 unfolding written
 write-accepted s nodes list out h =
     none-met (writeChecks s nodes list out) _ (refusedWrite s) (λ (r : Written). r .refusal) (λ n. refl) h
+
+pub list-accepted : (s : Session) (out : List ℕ) → liveListed s out .refusal ≡ 0 → firstMet (liveChecks s out) ≡ 0
+unfolding liveListed
+list-accepted s out h = none-met (liveChecks s out) _ (refusedWrite s) (λ (r : Written). r .refusal) (λ n. refl) h
 
 pub step-passed : (s : Session) (nodes : List ℕ) (j a b : ℕ) → stepped s nodes j a b .refusal ≡ 0 → firstMet (stepChecks s nodes j a b) ≡ 0
 unfolding stepped

@@ -12,18 +12,20 @@ use Rattle.repair.specs.declared.Written.{Written}
 use Rattle.repair.specs.declared.ReadOut.{ReadOut}
 use Rattle.repair.specs.declared.Repairs.{Repairs}
 use Rattle.repair.specs.Session.{nodesChecks}
-use Rattle.repair.specs.Boxed.{writeChecks, written}
+use Rattle.repair.specs.Boxed.{refusedWrite, writeChecks, written}
+use Rattle.repair.specs.LiveNodes.{liveListed}
 use Rattle.repair.specs.ReadOut.{readOutChecks, readOut}
 use Rattle.repair.specs.Step.{stepChecks, nodesStepped}
 use Rattle.repair.specs.Repairs.{refusedRepairs, planChecks, planned, ran}
 use Rattle.repair.specs.RepairClaims.{StepKeepsClaim, AcceptsClaim}
-use Rattle.repair.proofs.Refused.{refusedWrite, refusedOut}
-use Rattle.repair.proofs.Accepted.{read-out-accepted, write-accepted, step-passed, plan-accepted, run-accepted}
+use Rattle.repair.proofs.Refused.{refusedOut}
+use Rattle.repair.proofs.Accepted.{read-out-accepted, write-accepted, list-accepted, step-passed, plan-accepted, run-accepted}
+use Rattle.repair.proofs.LiveListLaws.{accepted-list, live-listed}
 use Rattle.repair.proofs.StepLaws.{accepted-step, step-blocks}
 use lib.ListN.{length}
 
 pub accepts-claim : AcceptsClaim
-unfolding planned ran written readOut planChecks writeChecks readOutChecks nodesChecks
+unfolding planned ran written liveListed readOut planChecks writeChecks readOutChecks nodesChecks
 accepts-claim s =
     record {
       plan = λ out. (
@@ -43,6 +45,10 @@ accepts-claim s =
             ap (λ (r : Written). r .refusal)
             (answer-served (writeChecks s nodes list out) _ (refusedWrite s)
             (none-zero (writeChecks s nodes list out) (p .0 .0, (ap not (eq-eqb _ _ (p .0 .1)), (p .1, (ap not (p .2), (p .3, (le-ltb _ _ (p .4), tt))))))))),
+      );
+      live = λ out. (
+        (λ h. let a = accepted-list s out (list-accepted s out h) in (a .starts, a .room)),
+        (λ p. ap (λ (r : Written). r .refusal) (sym (live-listed s out (p .0) (p .1) .answer-is))),
       );
       read-out = λ nodes object. (
         (λ h.

@@ -1,18 +1,18 @@
 -- What check, read and write answer, check by check, and what that leaves in the buffers.
 -- Assumes nothing.
-use mathlib.Core.Path.{_≡_, refl, sym, ap, _∙_, subst}
-use mathlib.Core.Bool.{Bool, true, false, cond}
+use mathlib.Core.Path.{_≡_, refl, sym, ap, _∙_}
+use mathlib.Core.Bool.{true, false}
 use mathlib.Core.List.{List, [], _∷_, _++_, append-assoc}
-use Prim.Native.Nat.{ℕ, _+_, _*_}
+use Prim.Native.Nat.{ℕ, _*_, _≤_, _<_}
 use native.Mathlib.Omega.{arith}
-use borrow.Author.Tests.{eq-eqb, ne-eqb, not-false}
+use borrow.Author.Tests.{eq-eqb, ne-eqb, lt-ltb, le-ltb, not-false}
 use lib.Dec.{ltb}
 use lib.ListN.{length, drop}
 use Rattle.checks.specs.Checks.{Check, _gives_, firstMet}
 use Rattle.checks.specs.Claims.{NoneMet}
 use Rattle.checks.proofs.Laws.{accepted, none-append, some-append}
 use Rattle.checks.proofs.AnswerLaws.{Gives, serves, refuses}
-use Rattle.lists.specs.Lists.{someOutside, rises, listChecks, someMissing, liveNodes}
+use Rattle.lists.specs.Lists.{someOutside, rises, listChecks, someMissing}
 use Rattle.lists.proofs.Laws.{list-accepted}
 use Rattle.boxes.specs.Box.{blockLengthIn, namesIn, bodiesIn, nodeCountIn, boxLength, boxChecks}
 use Rattle.boxes.specs.Bodies.{boxOf, withBodies}
@@ -21,8 +21,7 @@ use Rattle.repair.specs.declared.Session.{Session}
 use Rattle.repair.specs.declared.Started.{Started}
 use Rattle.repair.specs.declared.Written.{Written}
 use Rattle.repair.specs.Session.{refusedStart, nodeCountOf, nodesChecks}
-use Rattle.repair.specs.Boxed.{sessionIn, readChecks, readBox, nodesRead, listed, writtenLength, writeChecks, written, outWritten}
-use Rattle.repair.proofs.Refused.{refusedWrite}
+use Rattle.repair.specs.Boxed.{sessionIn, readChecks, readBox, nodesRead, writtenLength, refusedWrite, writeChecks, written, outWritten}
 use Rattle.repair.proofs.StartLaws.{nodes-none}
 
 -- ---- a box
@@ -99,32 +98,14 @@ module _ (s : Session) (nodes list out : List ℕ) where
     to-room : firstMet (writeChecks s nodes list out) ≡ firstMet room
     to-room = ap firstMet split ∙ none-append earlier room (list-none e)
 
-    -- with room or without, for the nodes that the list stands for
-    abbrev pub WriteDone : List ℕ → Type 0
-    WriteDone names =
-        Writes
-        (cond (ltb (length out) (boxLength (length names) (s .len))) (refusedWrite s 6) (record { refusal = 0; length = boxLength (length names) (s .len); session = s }))
-        (cond (ltb (length out) (boxLength (length names) (s .len))) out (boxOf (s .family) (s .k) (s .len) names nodes ++ drop (boxLength (length names) (s .len)) out))
-
-    all-listed : WriteDone (listed s list)
+    pub write-6 : length out < writtenLength s list → Writes (refusedWrite s 6) out
     unfolding written outWritten firstMet
-    all-listed = go (ltb (length out) (writtenLength s list)) refl
-      where
-        go : (b : Bool) → ltb (length out) (writtenLength s list) ≡ b → WriteDone (listed s list)
-        go true t = let f : firstMet (writeChecks s nodes list out) ≡ 6 = to-room ∙ rw t in record { answer-is = simp (t, f); buffer-is = simp (t, f) }
-        go false t = let f : firstMet (writeChecks s nodes list out) ≡ 0 = to-room ∙ rw t in record { answer-is = simp (t, f); buffer-is = simp (t, f) }
+    write-6 h = refuses (writeChecks s nodes list out) _ (refusedWrite s) _ out 6 (sym (to-room ∙ rw (lt-ltb (length out) (writtenLength s list) h))) (λ z. omega arith)
 
-    pub write-done : (names : List ℕ) → listed s list ≡ names → WriteDone names
-    write-done names e = subst WriteDone e all-listed
-
--- what a list stands for
-pub listed-some : (s : Session) (list : List ℕ) → (length list ≡ 0 → ⊥) → listed s list ≡ list
-listed-some s [] h = absurd (h refl)
-listed-some s (j ∷ list) h = refl
-
-pub listed-all : (s : Session) (list : List ℕ) → length list ≡ 0 → listed s list ≡ liveNodes (s .live) (nodeCountOf s)
-listed-all s [] h = refl
-listed-all s (j ∷ list) h = absurd (omega arith)
+    pub write-made : writtenLength s list ≤ length out
+        → Writes (record { refusal = 0; length = writtenLength s list; session = s }) (boxOf (s .family) (s .k) (s .len) list nodes ++ drop (writtenLength s list) out)
+    unfolding written outWritten firstMet
+    write-made h = serves (writeChecks s nodes list out) _ (refusedWrite s) _ out (to-room ∙ rw (le-ltb (length out) (writtenLength s list) h))
 
 -- the list's own checks, one by one
 module _ (s : Session) (length : ℕ) (list : List ℕ) where

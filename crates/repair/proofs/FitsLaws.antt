@@ -1,8 +1,8 @@
 -- A session and a nodes buffer that go together: which calls give such a pair, and which they are accepted by.
 -- Assumes nothing.
-use mathlib.Core.Path.{_≡_, refl, ap, _∙_}
+use mathlib.Core.Path.{_≡_, refl, sym, ap, _∙_}
 use mathlib.Core.Bool.{Bool, true, false, not}
-use mathlib.Core.List.{List, []}
+use mathlib.Core.List.{List}
 use Prim.Native.Nat.{ℕ, _*_, _≤_}
 use native.Mathlib.Nat.{mul-le-mul-right}
 use native.Mathlib.Omega.{arith}
@@ -14,23 +14,28 @@ use Rattle.families.proofs.Laws.{few}
 use Rattle.checks.specs.Checks.{firstMet}
 use Rattle.checks.proofs.Laws.{none-zero, none-append, parameters-in}
 use Rattle.checks.proofs.AnswerLaws.{answer-either}
-use Rattle.lists.specs.Lists.{someOutside, rises, noneLive, setLive, someMissing, liveNodes}
-use Rattle.lists.proofs.Laws.{length-setLive, list-outside-none, live-nodes-few}
+use Rattle.lists.specs.Lists.{noneLive, setLive}
+use Rattle.lists.proofs.Laws.{length-setLive, list-outside-none, live-nodes-few, live-nodes-inside, live-nodes-rise, live-nodes-live}
 use Rattle.boxes.specs.Box.{blockLengthIn, namesIn, nodeCountIn, boxLength, boxChecks}
 use Rattle.boxes.proofs.Answers.{box-none}
 use Rattle.boxes.proofs.Laws.{accepted-box}
 use Rattle.planning.specs.Plan.{Step, repairedNodes}
 use Rattle.repair.specs.declared.Session.{Session}
+use Rattle.repair.specs.declared.Written.{Written}
 use Rattle.repair.specs.declared.Stepped.{Stepped}
 use Rattle.repair.specs.declared.Repairs.{Repairs}
 use Rattle.repair.specs.Session.{sessionOf, startChecks, started, nodeCountOf, nodesChecks}
 use Rattle.repair.specs.Boxed.{sessionIn, checkedBox, readChecks, readBox, nodesRead, writeChecks, written}
+use Rattle.repair.specs.LiveNodes.{liveNodesOf, liveListed}
 use Rattle.repair.specs.Step.{stepChecks, stepped, nodesStepped}
 use Rattle.repair.specs.Repairs.{planIn, refusedRepairs, ran, nodesRan}
 use Rattle.repair.specs.Calls.{Move, step, run, called}
+use Rattle.repair.specs.Claims.{listLeft}
 use Rattle.repair.specs.WholeWay.{Fits, SameCode}
 use Rattle.repair.proofs.Refused.{refusedStep}
+use Rattle.repair.proofs.Accepted.{list-accepted}
 use Rattle.repair.proofs.StartLaws.{no-start-marks, nodes-0, accepted-start}
+use Rattle.repair.proofs.LiveListLaws.{live-listed, list-is}
 use Rattle.repair.proofs.StepLaws.{accepted-step}
 use Rattle.repair.proofs.RoundTripLaws.{box-starts, accepted-read, read-size}
 use Rattle.repair.proofs.OwnLaws.{session-stepped, nodes-stepped, sized-stepped, session-ran, ran-sized}
@@ -115,13 +120,20 @@ module _ (s : Session) (nodes : List ℕ) where
   same-code run =
       answer-either (nodesChecks s (length nodes)) _ (refusedRepairs s) (λ (r : Repairs). SameCode s (r .session)) (record { family = refl; k = refl; len = refl }) (λ n. itself)
 
--- ---- every live node written
+-- ---- every live node listed, and written
 
-pub fits-write : (s : Session) (nodes out : List ℕ) → Fits s nodes → boxLength (nodeCountOf s) (s .len) ≤ length out → written s nodes [] out .refusal ≡ 0
-unfolding written writeChecks nodesChecks someOutside rises someMissing
-fits-write s nodes out f room =
-    let few-live = live-nodes-few (s .live) (nodeCountOf s) in
-    let none : firstMet (writeChecks s nodes [] out) ≡ 0
-    = none-zero (writeChecks s nodes [] out)
-    (f .starts, (ap not (eq-eqb (length nodes) (nodeCountOf s * s .len) (f .size)), (refl, (refl, (refl, (le-ltb (length out) (boxLength (length (liveNodes (s .live) (nodeCountOf s))) (s .len)) (omega (arith, few-live, mul-le-mul-right (s .len) few-live)), tt)))))) in
-    rw none
+module _ (s : Session) (nodes room : List ℕ) (f : Fits s nodes) where
+  few-live : length (liveNodesOf s) ≤ nodeCountOf s
+  few-live = live-nodes-few (s .live) (nodeCountOf s)
+
+  pub fits-list : nodeCountOf s ≤ length room → liveListed s room .refusal ≡ 0
+  fits-list h = ap (λ (r : Written). r .refusal) (sym (live-listed s room (f .starts) (omega (arith, few-live)) .answer-is))
+
+  pub fits-write : (out : List ℕ) → liveListed s room .refusal ≡ 0 → boxLength (nodeCountOf s) (s .len) ≤ length out → written s nodes (listLeft s room) out .refusal ≡ 0
+  unfolding written writeChecks nodesChecks
+  fits-write out l h =
+      let list = liveNodesOf s in
+      let none : firstMet (writeChecks s nodes list out) ≡ 0
+      = none-zero (writeChecks s nodes list out)
+      (f .starts, (ap not (eq-eqb (length nodes) (nodeCountOf s * s .len) (f .size)), (live-nodes-inside (s .live) (nodeCountOf s), (ap not (live-nodes-rise (s .live) (nodeCountOf s)), (live-nodes-live (s .live) (nodeCountOf s), (le-ltb (length out) (boxLength (length list) (s .len)) (omega (arith, few-live, mul-le-mul-right (s .len) few-live)), tt)))))) in
+      rw (list-is s room (list-accepted s room l), none)

@@ -2,6 +2,7 @@ pub mod Refused
 pub mod Accepted
 pub mod StartLaws
 pub mod ReadOutLaws
+pub mod LiveListLaws
 pub mod BoxedLaws
 pub mod RoundTripLaws
 pub mod ListedLaws

@@ -1,34 +1,37 @@
 -- The claims of specs/Claims.antt.
 -- Assumes nothing.
-use mathlib.Core.Path.{_≡_, refl, sym, ap, _∙_}
-use mathlib.Core.Bool.{Bool, false}
-use mathlib.Core.List.{List, [], _∷_}
+use mathlib.Core.Path.{_≡_, refl, sym, ap, _∙_, subst}
+use mathlib.Core.Bool.{false, not}
+use mathlib.Core.List.{List, [], flatMap}
 use Prim.Native.Nat.{ℕ, suc, _<_}
 use native.Mathlib.Omega.{arith}
-use borrow.Author.Tests.{lt-ltb, le-ltb, ne-eqb, ltb-true}
+use borrow.Author.Tests.{lt-ltb, le-ltb, eq-eqb, ne-eqb, ltb-true}
 use lib.Dec.{ltb}
 use lib.ListN.{length}
 use Rattle.families.specs.Families.{familyOf, nodeCount}
 use Rattle.families.proofs.Laws.{few}
 use Rattle.checks.specs.Checks.{firstMet}
-use Rattle.checks.proofs.Laws.{parameters-in}
+use Rattle.checks.proofs.Laws.{none-zero, parameters-in}
 use Rattle.checks.proofs.AnswerLaws.{answer-refused}
-use Rattle.lists.specs.Lists.{placeIn, noneLive, isLive, setLive, liveNodes, liveOutside}
-use Rattle.lists.proofs.Laws.{live-of-list, marks-of-live-nodes, list-outside-none, outside-more}
+use Rattle.lists.specs.Lists.{someOutside, rises, placeIn, noneLive, isLive, setLive, someMissing, liveOutside}
+use Rattle.lists.proofs.Laws.{live-of-list, list-outside-none, outside-more}
 use Rattle.boxes.specs.Box.{familyIn, kIn, blockLengthIn, namesIn, nodeCountIn, boxChecks}
+use Rattle.boxes.specs.Bodies.{boxOf}
 use Rattle.boxes.proofs.Answers.{by-page, by-tests, by-box, body-empty}
 use Rattle.boxes.proofs.Laws.{accepted-box}
 use Rattle.boxes.proofs.Proved.{order-claim, body-claim, box-of-body-claim}
 use Rattle.repair.specs.declared.Session.{Session}
 use Rattle.repair.specs.declared.Started.{Started}
-use Rattle.repair.specs.Session.{sessionWith, refusedStart, started, nodeCountOf, noStart}
-use Rattle.repair.specs.Boxed.{checkedBox, readChecks, listed}
-use Rattle.repair.specs.Claims.{StartClaim, FromStart, NoStartClaim, StartMarksClaim, WriteReadClaim, ReadKeepsClaim, ReadWriteClaim, ReadBodyClaim, WrittenBodyClaim, BoxStartClaim, RefusedBox, WrongCountClaim, ReadOrderClaim}
-use Rattle.repair.proofs.Accepted.{start-accepted, check-accepted, read-accepted, write-accepted}
-use Rattle.repair.proofs.StartLaws.{known, start-0, no-start-marks, accepted-start}
+use Rattle.repair.specs.Session.{refusedStart, started, nodeCountOf, noStart, nodesChecks}
+use Rattle.repair.specs.Boxed.{sessionIn, checkedBox, readChecks, writtenLength, writeChecks, written, outWritten}
+use Rattle.repair.specs.LiveNodes.{liveNodesOf}
+use Rattle.repair.specs.Claims.{StartClaim, FromStart, NoStartClaim, StartMarksClaim, WriteReadClaim, EmptyBoxClaim, LiveListClaim, StartListClaim, BoxListClaim, ReadKeepsClaim, WrittenAgain, ReadWriteClaim, ReadBodyClaim, WrittenBodyClaim, BoxStartClaim, RefusedBox, WrongCountClaim, ReadOrderClaim}
+use Rattle.repair.proofs.Accepted.{start-accepted, check-accepted, read-accepted, write-accepted, list-accepted}
+use Rattle.repair.proofs.StartLaws.{start-0, no-start-marks, accepted-start}
+use Rattle.repair.proofs.LiveListLaws.{accepted-list, list-is, list-answer, list-rest, live-starts, start-lists}
 use Rattle.repair.proofs.ListedLaws.{place-there, place-before}
 use Rattle.repair.proofs.BoxedLaws.{read-by-box}
-use Rattle.repair.proofs.RoundTripLaws.{live-good, accepted-write, box-written, write-answer, write-room, write-rest, box-passes, box-names, box-checked, box-reads, bodies-read, accepted-read, read-is, read-keeps, again-all, again-named}
+use Rattle.repair.proofs.RoundTripLaws.{accepted-write, box-written, write-answer, write-room, write-rest, box-passes, box-names, box-checked, box-reads, bodies-read, accepted-read, names-are, read-is, read-keeps, again}
 
 -- ---- start
 
@@ -45,16 +48,7 @@ unfolding started
 no-start-claim s size = (from, back)
   where
     from : noStart s ≡ false → FromStart s
-    from e =
-        let g = known s e in
-        let l = live-good s in
-        let marks = marks-of-live-nodes (nodeCountOf s) (s .live) size (few (familyOf (s .family)) (s .k) (g .range .blocks)) (g .inside) in
-        record {
-          list = liveNodes (s .live) (nodeCountOf s);
-          start-gives =
-              rw (start-0 (s .family) (s .k) (s .len) (liveNodes (s .live) (nodeCountOf s)) (parameters-in (s .family) (s .k) (s .len) (g .range)) (l .outside) (l .rising))
-              (ap (λ (live : List Bool). record { refusal = 0; session = sessionWith (s .family) (s .k) (s .len) live }) marks);
-        }
+    from e = record { list = liveNodesOf s; start-gives = live-starts s size e }
 
     back : FromStart s → noStart s ≡ false
     back f =
@@ -93,11 +87,7 @@ start-marks-claim family k L list r j h =
     let a = accepted-start family k L list e in
     rw e (live-of-list list j h (outside-more (nodeCount (familyOf family) k) 255 list (few (familyOf family) k (a .range .blocks)) (a .outside)))
 
--- ---- write and read
-
-listed-named : (s : Session) (list : List ℕ) → (list ≡ [] → ⊥) → listed s list ≡ list
-listed-named s [] some = absurd (some refl)
-listed-named s (j ∷ list) some = refl
+-- ---- write, then read
 
 pub write-read-claim : WriteReadClaim
 write-read-claim s nodes list out h =
@@ -108,17 +98,57 @@ write-read-claim s nodes list out h =
       room = write-room s nodes list out e;
       rest = write-rest s nodes list out e;
       names = box-names s nodes list out e;
-      by-list = λ some. box-names s nodes list out e ∙ listed-named s list some;
       checks = box-checked s nodes list out e;
       reads = box-reads s nodes list out e;
       bodies = bodies-read s nodes list out e;
     }
 
+pub empty-box-claim : EmptyBoxClaim
+unfolding written outWritten writeChecks nodesChecks someOutside rises someMissing boxOf flatMap
+empty-box-claim s nodes out starts size room =
+    let long : writtenLength s [] ≡ 8 = omega arith in
+    let none : firstMet (writeChecks s nodes [] out) ≡ 0
+    = none-zero (writeChecks s nodes [] out) (starts, (ap not (eq-eqb _ _ size), (refl, (refl, (refl, (le-ltb (length out) (writtenLength s []) (omega arith), tt)))))) in
+    record { answer = rw (none, long); head = rw (none, long) }
+
+-- ---- the live nodes, listed
+
+pub live-list-claim : LiveListClaim
+live-list-claim s out h =
+    let e = list-accepted s out h in
+    let a = accepted-list s out e in
+    record {
+      is = list-is s out e;
+      answer = list-answer s out e;
+      room = omega (arith, ap length (list-is s out e), a .room);
+      rest = list-rest s out e;
+      start = λ size. rw (list-is s out e) (live-starts s size (a .starts));
+    }
+
+pub start-list-claim : StartListClaim
+unfolding started
+start-list-claim family k L list out h l =
+    let e = start-accepted family k L list h in
+    let s = started family k L list .session in
+    list-is s out (list-accepted s out l) ∙ rw e (start-lists family k L list e)
+
+pub box-list-claim : BoxListClaim
+box-list-claim bytes out h l =
+    let b = box-start-claim bytes h in
+    let s = checkedBox bytes .session in
+    list-is s out (list-accepted s out l) ∙ ap (λ (r : Started). liveNodesOf (r .session)) (b .is) ∙ names-are bytes (b .form)
+
+-- ---- read, then write
+
 pub read-keeps-claim : ReadKeepsClaim
 read-keeps-claim bytes nodes h j p n = read-keeps bytes nodes (read-accepted bytes nodes h) j p n
 
 pub read-write-claim : ReadWriteClaim
-read-write-claim bytes nodes out byte h room = let e = read-accepted bytes nodes h in (again-all bytes nodes e byte out room, again-named bytes nodes e byte out room)
+read-write-claim bytes nodes out byte h room =
+    let e = read-accepted bytes nodes h in
+    let a = accepted-box bytes (accepted-read bytes nodes e .passes) in
+    let same = again bytes nodes e byte out room in
+    (same, λ lent l. subst (λ (list : List ℕ). WrittenAgain bytes nodes list out) (sym (list-is (sessionIn bytes) lent (list-accepted (sessionIn bytes) lent l) ∙ names-are bytes a)) same)
 
 -- ---- the body of a node
 
@@ -132,7 +162,7 @@ pub written-body-claim : WrittenBodyClaim
 written-body-claim s nodes list out h i l =
     let e = write-accepted s nodes list out h in
     rw (box-written s nodes list out e)
-    (box-of-body-claim (s .family) (s .k) (s .len) (listed s list) nodes (box-passes s nodes list out e) (accepted-write s nodes list out e .size) i l)
+    (box-of-body-claim (s .family) (s .k) (s .len) list nodes (box-passes s nodes list out e) (accepted-write s nodes list out e .size) i l)
 
 -- ---- a page that counts another number
 

@@ -14,15 +14,16 @@ use Rattle.repair.specs.declared.Repairs.{Repairs}
 use Rattle.repair.specs.declared.Written.{Written}
 use Rattle.repair.specs.declared.ReadOut.{ReadOut}
 use Rattle.repair.specs.Session.{refusedStart, startChecks, started, nodesChecks}
-use Rattle.repair.specs.Boxed.{checkedBox, readChecks, readBox, nodesRead, writeChecks, written, outWritten}
+use Rattle.repair.specs.Boxed.{checkedBox, readChecks, readBox, nodesRead, refusedWrite, writeChecks, written, outWritten}
+use Rattle.repair.specs.LiveNodes.{liveChecks, liveListed, outListed}
 use Rattle.repair.specs.ReadOut.{readOutChecks, readOut, objectOut}
 use Rattle.repair.specs.Step.{stepChecks, stepped, nodesStepped}
 use Rattle.repair.specs.Repairs.{refusedRepairs, planChecks, planned, outPlanned, ran, nodesRan}
 use Rattle.repair.specs.Refusals.{RefusalClaim, ThirteenClaim}
-use Rattle.repair.proofs.Refused.{refusedStep, refusedWrite, refusedOut}
+use Rattle.repair.proofs.Refused.{refusedStep, refusedOut}
 
 pub refusal-claim : RefusalClaim
-unfolding encoded encodeAnswer started checkedBox readBox nodesRead bodyOf written outWritten readOut objectOut stepped nodesStepped planned outPlanned ran nodesRan
+unfolding encoded encodeAnswer started checkedBox readBox nodesRead bodyOf written outWritten liveListed outListed readOut objectOut stepped nodesStepped planned outPlanned ran nodesRan
 refusal-claim =
     record {
       encode = λ family k L object nodes h. after-refused (encodeChecks family k L (length object) (length nodes)) _ nodes h;
@@ -32,6 +33,7 @@ refusal-claim =
       body = λ bytes j h. after-refused (bodyChecks bytes j) _ [] h;
       write = λ s nodes list out h.
           refusal-keeps (writeChecks s nodes list out) _ (refusedWrite s) (λ (a : Written). a .refusal) (λ n. refl) refl h _ out;
+      live = λ s out h. refusal-keeps (liveChecks s out) _ (refusedWrite s) (λ (a : Written). a .refusal) (λ n. refl) refl h _ out;
       read-out = λ s nodes object h.
           refusal-keeps (readOutChecks s nodes object) _ (refusedOut s) (λ (a : ReadOut). a .refusal) (λ n. refl) refl h _ object;
       step = λ s nodes j a b h.
@@ -47,6 +49,6 @@ refusal-claim =
     repairs-number answer = answer .refusal
 
 pub thirteen-claim : ThirteenClaim
-unfolding nodesChecks firstMet written readOut stepped planned ran writeChecks readOutChecks stepChecks planChecks
+unfolding nodesChecks firstMet written liveListed readOut stepped planned ran writeChecks liveChecks readOutChecks stepChecks planChecks
 thirteen-claim s e =
-    record { write = λ nodes list out. rw e; read-out = λ nodes object. rw e; step = λ nodes j a b. rw e; plan = λ out. rw e; run = λ nodes. rw e }
+    record { write = λ nodes list out. rw e; live = λ out. rw e; read-out = λ nodes object. rw e; step = λ nodes j a b. rw e; plan = λ out. rw e; run = λ nodes. rw e }

@@ -15,8 +15,8 @@ use Rattle.checks.specs.Checks.{Check, _gives_, firstMet}
 use Rattle.checks.specs.Claims.{InRange}
 use Rattle.checks.proofs.Laws.{accepted, none-zero, none-append, parameters-in}
 use Rattle.blocks.specs.Blocks.{blockOf}
-use Rattle.lists.specs.Lists.{someOutside, rises, someMissing, liveNodes}
-use Rattle.lists.proofs.Laws.{live-nodes-of-list, live-nodes-inside, live-nodes-rise, live-nodes-live, list-outside-none, rising-few}
+use Rattle.lists.specs.Lists.{someOutside, rises, someMissing}
+use Rattle.lists.proofs.Laws.{live-nodes-of-list, live-nodes-live, list-outside-none, rising-few}
 use Rattle.boxes.specs.Box.{familyIn, kIn, blockLengthIn, namesIn, bodiesIn, nodeCountIn, boxChecks}
 use Rattle.boxes.specs.Bodies.{boxOf, withBodies}
 use Rattle.boxes.specs.Inner.{ListIn}
@@ -25,7 +25,8 @@ use Rattle.boxes.proofs.Answers.{box-none}
 use Rattle.boxes.proofs.Laws.{accepted-box, box-accepted, FieldsOf, fields-of, box-of-fields, length-boxOf, length-withBodies, bodies-there, bodies-same, bodies-other, list-in}
 use Rattle.repair.specs.declared.Session.{Session}
 use Rattle.repair.specs.Session.{sessionOf, nodeCountOf, noStart, nodesChecks}
-use Rattle.repair.specs.Boxed.{sessionIn, checkedBox, readChecks, readBox, nodesRead, listed, writtenLength, writeChecks, written, outWritten}
+use Rattle.repair.specs.Boxed.{sessionIn, checkedBox, readChecks, readBox, nodesRead, writtenLength, writeChecks, written, outWritten}
+use Rattle.repair.specs.LiveNodes.{liveNodesOf}
 use Rattle.repair.specs.Claims.{boxWritten, WrittenAgain}
 use Rattle.repair.proofs.StartLaws.{known, no-start-marks}
 
@@ -36,25 +37,13 @@ pub record Good (n : ℕ) (list : List ℕ) : Type 0 where
   pub outside : someOutside n list ≡ false
   pub rising : rises list ≡ true
 
--- the live nodes are so, for which an empty list stands
-pub live-good : (s : Session) → Good (nodeCountOf s) (liveNodes (s .live) (nodeCountOf s))
-live-good s = record { outside = live-nodes-inside (s .live) (nodeCountOf s); rising = live-nodes-rise (s .live) (nodeCountOf s) }
-
-listed-good : (s : Session) (list : List ℕ) → Good (nodeCountOf s) list → Good (nodeCountOf s) (listed s list)
-listed-good s [] g = live-good s
-listed-good s (j ∷ list) g = g
-
-listed-live : (s : Session) (list : List ℕ) → someMissing (s .live) list ≡ false → someMissing (s .live) (listed s list) ≡ false
-listed-live s [] m = live-nodes-live (s .live) (nodeCountOf s)
-listed-live s (j ∷ list) m = m
-
 -- what an accepted write says
 pub record AcceptedWrite (s : Session) (nodes list out : List ℕ) : Type 0 where
   pub range : InRange (s .family) (s .k) (s .len)
   pub starts : noStart s ≡ false
   pub size : length nodes ≡ nodeCountOf s * s .len
-  pub good : Good (nodeCountOf s) (listed s list)
-  pub live : someMissing (s .live) (listed s list) ≡ false
+  pub good : Good (nodeCountOf s) list
+  pub live : someMissing (s .live) list ≡ false
   pub room : writtenLength s list ≤ length out
 
 pub accepted-write : (s : Session) (nodes list out : List ℕ) → firstMet (writeChecks s nodes list out) ≡ 0 → AcceptedWrite s nodes list out
@@ -65,8 +54,8 @@ accepted-write s nodes list out e =
       range = known s (n .0) .range;
       starts = n .0;
       size = eqb-true (length nodes) (nodeCountOf s * s .len) (not-false _ (n .1 .0));
-      good = listed-good s list (record { outside = n .1 .1 .0; rising = not-false (rises list) (n .1 .1 .1 .0) });
-      live = listed-live s list (n .1 .1 .1 .1 .0);
+      good = record { outside = n .1 .1 .0; rising = not-false (rises list) (n .1 .1 .1 .0) };
+      live = n .1 .1 .1 .1 .0;
       room = ltb-false (length out) (writtenLength s list) (n .1 .1 .1 .1 .1 .0);
     }
 
@@ -77,19 +66,19 @@ module _ (s : Session) (nodes list out : List ℕ) (e : firstMet (writeChecks s 
   says = accepted-write s nodes list out e
 
   -- a buffer of n × L bytes has the listed nodes
-  listed-in : (buffer : List ℕ) → length buffer ≡ nodeCountOf s * s .len → ListIn (s .len) buffer (listed s list)
-  listed-in buffer h = list-in (s .len) (nodeCountOf s) buffer (listed s list) h (says .good .outside)
+  listed-in : (buffer : List ℕ) → length buffer ≡ nodeCountOf s * s .len → ListIn (s .len) buffer list
+  listed-in buffer h = list-in (s .len) (nodeCountOf s) buffer list h (says .good .outside)
 
   -- what is left is the box of the listed nodes
-  pub box-written : boxWritten s nodes list out ≡ boxOf (s .family) (s .k) (s .len) (listed s list) nodes
+  pub box-written : boxWritten s nodes list out ≡ boxOf (s .family) (s .k) (s .len) list nodes
   unfolding outWritten
   box-written =
       rw e
-      (take-at (boxOf (s .family) (s .k) (s .len) (listed s list) nodes) (drop (writtenLength s list) out) (writtenLength s list)
-      (length-boxOf (s .family) (s .k) (s .len) (listed s list) nodes (listed-in nodes (says .size))))
+      (take-at (boxOf (s .family) (s .k) (s .len) list nodes) (drop (writtenLength s list) out) (writtenLength s list)
+      (length-boxOf (s .family) (s .k) (s .len) list nodes (listed-in nodes (says .size))))
 
   box-size : length (boxWritten s nodes list out) ≡ writtenLength s list
-  box-size = ap length box-written ∙ length-boxOf (s .family) (s .k) (s .len) (listed s list) nodes (listed-in nodes (says .size))
+  box-size = ap length box-written ∙ length-boxOf (s .family) (s .k) (s .len) list nodes (listed-in nodes (says .size))
 
   -- its length is returned, there is room for it, and beyond it nothing is written
   pub write-answer : written s nodes list out ≡ record { refusal = 0; length = length (boxWritten s nodes list out); session = s }
@@ -99,7 +88,7 @@ module _ (s : Session) (nodes list out : List ℕ) (e : firstMet (writeChecks s 
   pub write-room : length (boxWritten s nodes list out) ≤ length out
   write-room = omega (arith, box-size, says .room)
 
-  done : outWritten s nodes list out ≡ boxOf (s .family) (s .k) (s .len) (listed s list) nodes ++ drop (writtenLength s list) out
+  done : outWritten s nodes list out ≡ boxOf (s .family) (s .k) (s .len) list nodes ++ drop (writtenLength s list) out
   unfolding outWritten
   done = rw e
 
@@ -107,28 +96,28 @@ module _ (s : Session) (nodes list out : List ℕ) (e : firstMet (writeChecks s 
   write-rest = rw (box-size, box-written) done
 
   -- and it is accepted
-  pub box-passes : firstMet (boxChecks (boxOf (s .family) (s .k) (s .len) (listed s list) nodes)) ≡ 0
+  pub box-passes : firstMet (boxChecks (boxOf (s .family) (s .k) (s .len) list nodes)) ≡ 0
   box-passes =
       let g = says .good in
-      box-accepted (s .family) (s .k) (s .len) (listed s list) nodes (says .range) (g .outside) (g .rising)
-      (rising-few (nodeCountOf s) (listed s list) (g .outside) (g .rising)) (says .size)
+      box-accepted (s .family) (s .k) (s .len) list nodes (says .range) (g .outside) (g .rising)
+      (rising-few (nodeCountOf s) list (g .outside) (g .rising)) (says .size)
 
-  fields : FieldsOf (s .family) (s .k) (s .len) (listed s list) nodes
-  fields = fields-of (s .family) (s .k) (s .len) (listed s list) nodes
+  fields : FieldsOf (s .family) (s .k) (s .len) list nodes
+  fields = fields-of (s .family) (s .k) (s .len) list nodes
 
-  pub box-names : namesIn (boxWritten s nodes list out) ≡ listed s list
+  pub box-names : namesIn (boxWritten s nodes list out) ≡ list
   box-names = ap namesIn box-written ∙ fields .names-is
 
   -- it checks to the session of the listed nodes
-  pub box-checked : checkedBox (boxWritten s nodes list out) ≡ record { refusal = 0; session = sessionOf (s .family) (s .k) (s .len) (listed s list) }
+  pub box-checked : checkedBox (boxWritten s nodes list out) ≡ record { refusal = 0; session = sessionOf (s .family) (s .k) (s .len) list }
   unfolding checkedBox
   box-checked = ap checkedBox box-written ∙ rw (box-passes, fields .names-is, fields .length-is, fields .k-is, fields .family-is)
 
   module _ (other : List ℕ) (h : length other ≡ nodeCountOf s * s .len) where
-    reads : firstMet (readChecks (boxOf (s .family) (s .k) (s .len) (listed s list) nodes) other) ≡ 0
+    reads : firstMet (readChecks (boxOf (s .family) (s .k) (s .len) list nodes) other) ≡ 0
     unfolding readChecks firstMet
     reads =
-        let box = boxOf (s .family) (s .k) (s .len) (listed s list) nodes in
+        let box = boxOf (s .family) (s .k) (s .len) list nodes in
         none-append (boxChecks box) _ (box-none box box-passes)
         ∙ rw (fields .length-is, fields .k-is, fields .family-is, eq-eqb (length other) (nodeCountOf s * s .len) h)
 
@@ -138,13 +127,13 @@ module _ (s : Session) (nodes list out : List ℕ) (e : firstMet (writeChecks s 
     box-reads = rw (box-written, reads, box-passes)
 
     -- the bodies of the buffer that was written
-    box-read : nodesRead (boxWritten s nodes list out) other ≡ withBodies (s .len) other (listed s list) (flatMap (blockOf (s .len) nodes) (listed s list))
+    box-read : nodesRead (boxWritten s nodes list out) other ≡ withBodies (s .len) other list (flatMap (blockOf (s .len) nodes) list)
     unfolding nodesRead
     box-read = ap (λ (x : List ℕ). nodesRead x other) box-written ∙ rw (reads, fields .bodies-is, fields .names-is, fields .length-is)
 
-    pub bodies-read : (i : ℕ) → i < length (listed s list)
-        → blockOf (s .len) (nodesRead (boxWritten s nodes list out) other) (getD (listed s list) i 0) ≡ blockOf (s .len) nodes (getD (listed s list) i 0)
-    bodies-read i l = rw box-read (bodies-same (s .len) nodes other (listed s list) i (says .good .rising) (listed-in nodes (says .size)) (listed-in other h) l)
+    pub bodies-read : (i : ℕ) → i < length list
+        → blockOf (s .len) (nodesRead (boxWritten s nodes list out) other) (getD list i 0) ≡ blockOf (s .len) nodes (getD list i 0)
+    bodies-read i l = rw box-read (bodies-same (s .len) nodes other list i (says .good .rising) (listed-in nodes (says .size)) (listed-in other h) l)
 
 -- ---- an accepted box, read
 
@@ -168,24 +157,16 @@ accepted-read bytes nodes e =
     let n = accepted sizes refl (sym (none-append (boxChecks bytes) sizes (box-none bytes p)) ∙ e) in
     record { passes = p; size = eqb-true _ _ (not-false _ (n .0)) }
 
--- the named nodes are what the session of an accepted box lists, by an empty list and by their own
+-- the named nodes are the live ones of the session of an accepted box
 module _ (bytes : List ℕ) (a : AcceptedBox bytes) where
   few-nodes : nodeCountIn bytes ≤ 255
   few-nodes = few (familyOf (familyIn bytes)) (kIn bytes) (a .range .blocks)
 
-  all-listed : listed (sessionIn bytes) [] ≡ namesIn bytes
-  all-listed = live-nodes-of-list (nodeCountIn bytes) (namesIn bytes) few-nodes (a .nodes) (a .rising)
+  pub names-are : liveNodesOf (sessionIn bytes) ≡ namesIn bytes
+  names-are = live-nodes-of-list (nodeCountIn bytes) (namesIn bytes) few-nodes (a .nodes) (a .rising)
 
-  names-listed : listed (sessionIn bytes) (namesIn bytes) ≡ namesIn bytes
-  names-listed = go (namesIn bytes) refl
-    where
-      go : (list : List ℕ) → namesIn bytes ≡ list → listed (sessionIn bytes) list ≡ list
-      go [] e = all-listed ∙ e
-      go (j ∷ list) e = refl
-
-  -- each is live there
   names-live : someMissing (sessionIn bytes .live) (namesIn bytes) ≡ false
-  names-live = rw all-listed at (live-nodes-live (sessionIn bytes .live) (nodeCountIn bytes))
+  names-live = rw names-are at (live-nodes-live (sessionIn bytes .live) (nodeCountIn bytes))
 
   -- some start gives that session
   pub box-starts : noStart (sessionIn bytes) ≡ false
@@ -225,21 +206,15 @@ module _ (bytes nodes : List ℕ) (e : firstMet (readChecks bytes nodes) ≡ 0) 
         box-of-fields bytes (nodesRead bytes nodes) byte (accepted-read bytes nodes e .passes)
         (rw read-is (bodies-there (blockLengthIn bytes) nodes (namesIn bytes) (bodiesIn bytes) (passed .rising) names-in bodies-held))
 
-    -- by a list that stands for the named nodes
-    again : (list : List ℕ) → Good (nodeCountIn bytes) list → someMissing (sessionIn bytes .live) list ≡ false → listed (sessionIn bytes) list ≡ namesIn bytes
-        → WrittenAgain bytes nodes list out
+    -- by its own list
+    pub again : WrittenAgain bytes nodes (namesIn bytes) out
     unfolding written outWritten writeChecks nodesChecks
-    again list g m q =
-        let long : writtenLength (sessionIn bytes) list ≡ length bytes = rw (q, passed .names-size) (sym (passed .size)) in
-        let none : firstMet (writeChecks (sessionIn bytes) (nodesRead bytes nodes) list out) ≡ 0
-        = none-zero (writeChecks (sessionIn bytes) (nodesRead bytes nodes) list out)
-        (box-starts bytes passed, (ap not (eq-eqb _ _ read-size), (g .outside, (ap not (g .rising), (m, (le-ltb (length out) (writtenLength (sessionIn bytes) list) (omega arith), tt)))))) in
-        let rest : outWritten (sessionIn bytes) (nodesRead bytes nodes) list out ≡ bytes ++ drop (length bytes) out = rw (none, long, q, box-again) in
+    again =
+        let s = sessionIn bytes in
+        let list = namesIn bytes in
+        let long : writtenLength s list ≡ length bytes = rw (passed .names-size) (sym (passed .size)) in
+        let none : firstMet (writeChecks s (nodesRead bytes nodes) list out) ≡ 0
+        = none-zero (writeChecks s (nodesRead bytes nodes) list out)
+        (box-starts bytes passed, (ap not (eq-eqb _ _ read-size), (passed .nodes, (ap not (passed .rising), (names-live bytes passed, (le-ltb (length out) (writtenLength s list) (omega arith), tt)))))) in
+        let rest : outWritten s (nodesRead bytes nodes) list out ≡ bytes ++ drop (length bytes) out = rw (none, long, box-again) in
         record { answer = rw (none, long); rest = rest; box = ap₂ (λ (n : ℕ) (x : List ℕ). take n x) long rest ∙ take-at bytes (drop (length bytes) out) (length bytes) refl }
-
-    pub again-all : WrittenAgain bytes nodes [] out
-    unfolding someOutside rises someMissing
-    again-all = again [] (record { outside = refl; rising = refl }) refl (all-listed bytes passed)
-
-    pub again-named : WrittenAgain bytes nodes (namesIn bytes) out
-    again-named = again (namesIn bytes) (record { outside = passed .nodes; rising = passed .rising }) (names-live bytes passed) (names-listed bytes passed)

@@ -20,7 +20,7 @@ use Rattle.encoding.specs.Encode.{encodeAnswer, encoded}
 use Rattle.encoding.proofs.Answers.{accepted-call, written as encoded-is}
 use Rattle.encoding.proofs.Nodes.{buffer-block}
 use Rattle.lists.specs.Lists.{noneLive, isLive, someMissing, isIn}
-use Rattle.lists.proofs.Laws.{length-setLive, marks-of-live-nodes, outside-none}
+use Rattle.lists.proofs.Laws.{length-setLive, outside-none}
 use Rattle.boxes.specs.Box.{familyIn, kIn, blockLengthIn, namesIn, nodeCountIn, boxChecks}
 use Rattle.boxes.proofs.Laws.{FieldsOf, fields-of}
 use Rattle.planning.specs.Pairs.{NoPairLeft}
@@ -30,25 +30,25 @@ use Rattle.readout.proofs.Laws.{data-node}
 use Rattle.repair.specs.declared.Session.{Session}
 use Rattle.repair.specs.declared.Started.{Started}
 use Rattle.repair.specs.declared.ReadOut.{ReadOut}
-use Rattle.repair.specs.Session.{sessionWith, sessionOf, started, nodeCountOf, nodesChecks}
-use Rattle.repair.specs.Boxed.{checkedBox, readChecks, readBox, nodesRead, listed, writeChecks, written}
+use Rattle.repair.specs.Session.{sessionOf, acceptedStart, started, nodeCountOf, nodesChecks}
+use Rattle.repair.specs.Boxed.{checkedBox, readChecks, readBox, nodesRead, writeChecks, written}
 use Rattle.repair.specs.ReadOut.{missingIn, readOut, objectOut}
 use Rattle.repair.specs.Repairs.{ran, nodesRan}
 use Rattle.repair.specs.Calls.{Move, run, State, called, Call, sessionAfterAll, liveAfter, stateAfter}
 use Rattle.repair.specs.LeftOver.{lastSession, LeftOver}
-use Rattle.repair.specs.Claims.{boxWritten}
+use Rattle.repair.specs.Claims.{boxWritten, listLeft}
 use Rattle.repair.specs.RepairClaims.{LiveAreOwn, OwnClaims}
 use Rattle.repair.specs.WholeWay.{Fits, FitsClaim, WriteLiveClaim, BodiesAreOwn, OwnBoxClaim, MissingOpenClaim, LowestOpen, NoneOpen, OutWhereOpen, OutWhereLiveClaim, OutAfterRunClaim, Way, startOf, nodesEncoded, boxAway, stateAt, OnTheWay, WholeWayClaim}
 use Rattle.repair.proofs.Accepted.{start-accepted, check-accepted, read-accepted, write-accepted, run-accepted}
 use Rattle.repair.proofs.StartLaws.{known, nodes-0}
 use Rattle.repair.proofs.ReadOutLaws.{by-block, accepted-out, read}
 use Rattle.repair.proofs.RoundTripLaws.{accepted-write, box-written, box-checked, accepted-read}
-use Rattle.repair.proofs.Proved.{read-body-claim, written-body-claim, box-start-claim}
+use Rattle.repair.proofs.Proved.{live-list-claim, read-body-claim, written-body-claim, box-start-claim}
 use Rattle.repair.proofs.RepairsProved.{run-claim, own-claim}
 use Rattle.repair.proofs.LeftOverProved.{session-is, demand-3}
 use Rattle.repair.proofs.CallLaws.{FromStart, from-start}
 use Rattle.repair.proofs.OwnLaws.{ran-sized}
-use Rattle.repair.proofs.FitsLaws.{session-started, start-fits, read-same, session-read, read-fits, fits-runs, fits-call, same-code, fits-write}
+use Rattle.repair.proofs.FitsLaws.{session-started, start-fits, read-same, session-read, read-fits, fits-runs, fits-call, same-code, fits-list, fits-write}
 
 not-true : (b : Bool) → not b ≡ true → b ≡ false
 not-true true h = absurd (false≢true h)
@@ -66,17 +66,18 @@ fits-claim =
       call = fits-call;
       same = same-code;
       run = λ s nodes f. rw (fits-runs s nodes f);
-      write = fits-write;
+      list = fits-list;
+      write = λ s nodes room out f. fits-write s nodes room f out;
     }
 
--- the listed nodes are all that are live, so their session is the one that they were listed from
+-- a start by the list gives the session that it was listed from
 pub write-live-claim : WriteLiveClaim
-write-live-claim s nodes out size h =
-    let e = write-accepted s nodes [] out h in
-    let g = known s (accepted-write s nodes [] out e .starts) in
-    box-checked s nodes [] out e
-    ∙ ap (λ (live : List Bool). record { refusal = 0; session = sessionWith (s .family) (s .k) (s .len) live })
-    (marks-of-live-nodes (nodeCountOf s) (s .live) size (few (familyOf (s .family)) (s .k) (g .range .blocks)) (g .inside))
+write-live-claim s nodes room out size l h =
+    let list = listLeft s room in
+    let starts = live-list-claim s room l .start size in
+    box-checked s nodes list out (write-accepted s nodes list out h)
+    ∙ ap acceptedStart (sym (session-started (s .family) (s .k) (s .len) list (start-accepted (s .family) (s .k) (s .len) list (ap (λ (r : Started). r .refusal) starts))))
+    ∙ ap (λ (r : Started). acceptedStart (r .session)) starts
 
 -- ---- the object's own blocks
 
@@ -102,15 +103,15 @@ own-write : (object : List ℕ) (s : Session) (nodes list out : List ℕ) → Li
 own-write object s nodes list out own h =
     let e = write-accepted s nodes list out h in
     let a = accepted-write s nodes list out e in
-    let d = fields-of (s .family) (s .k) (s .len) (listed s list) nodes in
+    let d = fields-of (s .family) (s .k) (s .len) list nodes in
     let is = box-written s nodes list out e in
     rw is
     (λ i l.
-    let m : i < length (listed s list) = omega (arith, d .held-is) in
-    let n = outside-none (nodeCountOf s) (listed s list) (a .good .outside) i m in
+    let m : i < length list = omega (arith, d .held-is) in
+    let n = outside-none (nodeCountOf s) list (a .good .outside) i m in
     rw (d .names-is, d .family-is, d .k-is, d .length-is)
     (rw is at (written-body-claim s nodes list out h i m)
-    ∙ own (getD (listed s list) i 0) (record { first = n .0; last = n .1 }) (live-at (s .live) (listed s list) i (a .live) m)))
+    ∙ own (getD list i 0) (record { first = n .0; last = n .1 }) (live-at (s .live) list i (a .live) m)))
 
 own-read : (object bytes nodes : List ℕ) → BodiesAreOwn object bytes → readBox bytes nodes .refusal ≡ 0
     → LiveAreOwn object (readBox bytes nodes .session) (nodesRead bytes nodes)
@@ -385,8 +386,8 @@ module _ (way : Way) (on : OnTheWay way) (moves : List Move) where
   writes : firstMet (writeChecks (startOf way .session) (nodesEncoded way) (way .list) (way .out)) ≡ 0
   writes = write-accepted (startOf way .session) (nodesEncoded way) (way .list) (way .out) (on .write)
 
-  fields : FieldsOf (startOf way .session .family) (startOf way .session .k) (startOf way .session .len) (listed (startOf way .session) (way .list)) (nodesEncoded way)
-  fields = fields-of (startOf way .session .family) (startOf way .session .k) (startOf way .session .len) (listed (startOf way .session) (way .list)) (nodesEncoded way)
+  fields : FieldsOf (startOf way .session .family) (startOf way .session .k) (startOf way .session .len) (way .list) (nodesEncoded way)
+  fields = fields-of (startOf way .session .family) (startOf way .session .k) (startOf way .session .len) (way .list) (nodesEncoded way)
 
   object-is : kIn box * blockLengthIn box ≡ way .k * way .len
   object-is =

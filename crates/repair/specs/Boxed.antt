@@ -5,7 +5,7 @@ use mathlib.Core.List.{List, [], _∷_, _++_}
 use lib.ListN.{length, drop}
 use lib.Dec.{eqb, ltb}
 use Rattle.checks.specs.Checks.{Check, _gives_, answer, afterwards}
-use Rattle.lists.specs.Lists.{listChecks, someMissing, liveNodes}
+use Rattle.lists.specs.Lists.{listChecks, someMissing}
 use Rattle.boxes.specs.Box.{familyIn, kIn, blockLengthIn, namesIn, bodiesIn, nodeCountIn, boxLength, boxChecks}
 use Rattle.boxes.specs.Bodies.{boxOf, withBodies}
 use Rattle.repair.specs.declared.Session.{Session}
@@ -33,14 +33,9 @@ readBox bytes nodes = answer (readChecks bytes nodes) (acceptedStart (sessionIn 
 unfoldable pub nodesRead : List ℕ → List ℕ → List ℕ
 nodesRead bytes nodes = afterwards (readChecks bytes nodes) (withBodies (blockLengthIn bytes) nodes (namesIn bytes) (bodiesIn bytes)) nodes
 
--- an empty list stands for every live node
-abbrev pub listed : Session → List ℕ → List ℕ
-listed s [] = liveNodes (s .live) (nodeCountOf s)
-listed s (j ∷ list) = j ∷ list
-
 -- the length of the box that is written
 abbrev pub writtenLength : Session → List ℕ → ℕ
-writtenLength s list = boxLength (length (listed s list)) (s .len)
+writtenLength s list = boxLength (length list) (s .len)
 
 -- Write: 13, 6 for the nodes, 4, 5, 12, 6 for the destination
 unfoldable pub writeChecks : Session → List ℕ → List ℕ → List ℕ → List Check
@@ -51,12 +46,15 @@ writeChecks s nodes list out =
     ∷ (ltb (length out) (writtenLength s list) gives 6)
     ∷ []))
 
--- what writing gives: the length; refused, its number and length 0. The session stays
+-- a refusal: its number and length 0, the session as handed in
+abbrev pub refusedWrite : Session → ℕ → Written
+refusedWrite s number = record { refusal = number; length = 0; session = s }
+
+-- what writing gives: the length. The session stays
 unfoldable pub written : Session → List ℕ → List ℕ → List ℕ → Written
-written s nodes list out =
-    answer (writeChecks s nodes list out) (record { refusal = 0; length = writtenLength s list; session = s }) (λ number. record { refusal = number; length = 0; session = s })
+written s nodes list out = answer (writeChecks s nodes list out) (record { refusal = 0; length = writtenLength s list; session = s }) (refusedWrite s)
 
 -- the destination afterwards: the box, and beyond it what was there
 unfoldable pub outWritten : Session → List ℕ → List ℕ → List ℕ → List ℕ
 outWritten s nodes list out =
-    afterwards (writeChecks s nodes list out) (boxOf (s .family) (s .k) (s .len) (listed s list) nodes ++ drop (writtenLength s list) out) out
+    afterwards (writeChecks s nodes list out) (boxOf (s .family) (s .k) (s .len) list nodes ++ drop (writtenLength s list) out) out

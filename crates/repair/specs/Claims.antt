@@ -3,7 +3,7 @@ use mathlib.Core.Path.{_≡_}
 use mathlib.Core.Bool.{true, false, not}
 use mathlib.Core.List.{List, [], _∷_, _++_}
 use mathlib.Core.Logic.{_↔_}
-use Prim.Native.Nat.{ℕ, _*_, _≤_, _<_}
+use Prim.Native.Nat.{ℕ, _*_, _/_, _%_, _≤_, _<_}
 use lib.ListN.{length, getD, take, drop}
 use lib.Dec.{eqb}
 use Rattle.families.specs.Families.{familyOf, nodeCount}
@@ -16,7 +16,8 @@ use Rattle.boxes.specs.Bodies.{boxOf}
 use Rattle.boxes.specs.Claims.{AcceptedBox, SoundHead, oldBoxChecks, Changed, Named}
 use Rattle.repair.specs.declared.Session.{Session}
 use Rattle.repair.specs.Session.{sessionOf, acceptedStart, refusedStart, started, nodeCountOf, noStart}
-use Rattle.repair.specs.Boxed.{sessionIn, checkedBox, readChecks, readBox, nodesRead, listed, writtenLength, written, outWritten}
+use Rattle.repair.specs.Boxed.{sessionIn, checkedBox, readChecks, readBox, nodesRead, writtenLength, written, outWritten}
+use Rattle.repair.specs.LiveNodes.{liveNodesOf, liveListed, outListed}
 
 -- ---- start
 
@@ -48,21 +49,59 @@ boxWritten s nodes list out = take (writtenLength s list) (outWritten s nodes li
 -- what is written, what it checks to, and what it reads to
 pub record WriteReadClaims (s : Session) (nodes list out : List ℕ) : Type 0 where
   -- these bytes are the box of the listed nodes; their number is returned, there is room for them, and beyond them nothing is written
-  pub box : boxWritten s nodes list out ≡ boxOf (s .family) (s .k) (s .len) (listed s list) nodes
+  pub box : boxWritten s nodes list out ≡ boxOf (s .family) (s .k) (s .len) list nodes
   pub answer : written s nodes list out ≡ record { refusal = 0; length = length (boxWritten s nodes list out); session = s }
   pub room : length (boxWritten s nodes list out) ≤ length out
   pub rest : outWritten s nodes list out ≡ boxWritten s nodes list out ++ drop (length (boxWritten s nodes list out)) out
-  -- the box names the listed nodes, which are those of a list that is not empty, checks to their session, and reads, into whatever buffer, to the same bodies
-  pub names : namesIn (boxWritten s nodes list out) ≡ listed s list
-  pub by-list : (list ≡ [] → ⊥) → namesIn (boxWritten s nodes list out) ≡ list
-  pub checks : checkedBox (boxWritten s nodes list out) ≡ acceptedStart (sessionOf (s .family) (s .k) (s .len) (listed s list))
+  -- the box names the listed nodes, checks to their session, and reads, into whatever buffer, to the same bodies
+  pub names : namesIn (boxWritten s nodes list out) ≡ list
+  pub checks : checkedBox (boxWritten s nodes list out) ≡ acceptedStart (sessionOf (s .family) (s .k) (s .len) list)
   pub reads : (other : List ℕ) → length other ≡ nodeCountOf s * s .len → readBox (boxWritten s nodes list out) other ≡ checkedBox (boxWritten s nodes list out)
-  pub bodies : (other : List ℕ) → length other ≡ nodeCountOf s * s .len → (i : ℕ) → i < length (listed s list)
-      → blockOf (s .len) (nodesRead (boxWritten s nodes list out) other) (getD (listed s list) i 0) ≡ blockOf (s .len) nodes (getD (listed s list) i 0)
+  pub bodies : (other : List ℕ) → length other ≡ nodeCountOf s * s .len → (i : ℕ) → i < length list
+      → blockOf (s .len) (nodesRead (boxWritten s nodes list out) other) (getD list i 0) ≡ blockOf (s .len) nodes (getD list i 0)
 
 -- of every accepted write
 abbrev pub WriteReadClaim : Type 0
 WriteReadClaim = (s : Session) (nodes list out : List ℕ) → written s nodes list out .refusal ≡ 0 → WriteReadClaims s nodes list out
+
+-- an empty list stands for no node: the box is its head alone, of 8 bytes with E = 0
+pub record EmptyBox (s : Session) (nodes out : List ℕ) : Type 0 where
+  pub answer : written s nodes [] out ≡ record { refusal = 0; length = 8; session = s }
+  pub head : outWritten s nodes [] out ≡ (s .family ∷ s .k ∷ s .len % 256 ∷ s .len / 256 ∷ 0 ∷ 0 ∷ 0 ∷ 0 ∷ []) ++ drop 8 out
+
+-- of every session that some start gives, with room for it
+abbrev pub EmptyBoxClaim : Type 0
+EmptyBoxClaim = (s : Session) (nodes out : List ℕ) → noStart s ≡ false → length nodes ≡ nodeCountOf s * s .len → 8 ≤ length out → EmptyBox s nodes out
+
+-- ---- the live nodes, listed
+
+-- the list that is left at the start of the buffer, by the number that is given
+abbrev pub listLeft : Session → List ℕ → List ℕ
+listLeft s out = take (liveListed s out .length) (outListed s out)
+
+-- of the list that is left
+pub record LiveListClaims (s : Session) (out : List ℕ) : Type 0 where
+  -- it is the live nodes; its length is given, there is room for it, and beyond it nothing is written
+  pub is : listLeft s out ≡ liveNodesOf s
+  pub answer : liveListed s out ≡ record { refusal = 0; length = length (listLeft s out); session = s }
+  pub room : length (listLeft s out) ≤ length out
+  pub rest : outListed s out ≡ listLeft s out ++ drop (length (listLeft s out)) out
+  -- a start by it gives the session, so that it is of nodes, strictly rises, and has exactly the live ones
+  pub start : length (s .live) ≡ 256 → started (s .family) (s .k) (s .len) (listLeft s out) ≡ acceptedStart s
+
+-- wherever it is accepted
+abbrev pub LiveListClaim : Type 0
+LiveListClaim = (s : Session) (out : List ℕ) → liveListed s out .refusal ≡ 0 → LiveListClaims s out
+
+-- the live nodes of an accepted start's session are its list
+abbrev pub StartListClaim : Type 0
+StartListClaim = (family k L : ℕ) (list out : List ℕ) → started family k L list .refusal ≡ 0
+    → liveListed (started family k L list .session) out .refusal ≡ 0 → listLeft (started family k L list .session) out ≡ list
+
+-- and those of an accepted box's session its own list
+abbrev pub BoxListClaim : Type 0
+BoxListClaim = (bytes out : List ℕ) → checkedBox bytes .refusal ≡ 0
+    → liveListed (checkedBox bytes .session) out .refusal ≡ 0 → listLeft (checkedBox bytes .session) out ≡ namesIn bytes
 
 -- ---- read, then write
 
@@ -78,11 +117,12 @@ pub record WrittenAgain (bytes nodes list out : List ℕ) : Type 0 where
   pub rest : outWritten (sessionIn bytes) (nodesRead bytes nodes) list out ≡ bytes ++ drop (length bytes) out
   pub box : boxWritten (sessionIn bytes) (nodesRead bytes nodes) list out ≡ bytes
 
--- an accepted box, read and written again before any repair, has the same bytes, by an empty list and by its own. That byte 2, the
--- low one of L, is a byte is all that is asked of the list of numbers
+-- an accepted box, read into any buffer and written again before any repair, has the same bytes, by its own list, E = 0 included, and
+-- by that of its session's live nodes. That byte 2, the low one of L, is a byte is all that is asked of the list of numbers
 abbrev pub ReadWriteClaim : Type 0
 ReadWriteClaim = (bytes nodes out : List ℕ) → getD bytes 2 0 < 256 → readBox bytes nodes .refusal ≡ 0 → length bytes ≤ length out
-    → WrittenAgain bytes nodes [] out × WrittenAgain bytes nodes (namesIn bytes) out
+    → WrittenAgain bytes nodes (namesIn bytes) out
+    × ((room : List ℕ) → liveListed (sessionIn bytes) room .refusal ≡ 0 → WrittenAgain bytes nodes (listLeft (sessionIn bytes) room) out)
 
 -- ---- the body of a node
 
@@ -93,8 +133,8 @@ ReadBodyClaim = (bytes nodes : List ℕ) → readBox bytes nodes .refusal ≡ 0 
 
 -- in a written box it is that node's block
 abbrev pub WrittenBodyClaim : Type 0
-WrittenBodyClaim = (s : Session) (nodes list out : List ℕ) → written s nodes list out .refusal ≡ 0 → (i : ℕ) → i < length (listed s list)
-    → bodyOf (boxWritten s nodes list out) (getD (listed s list) i 0) ≡ blockOf (s .len) nodes (getD (listed s list) i 0)
+WrittenBodyClaim = (s : Session) (nodes list out : List ℕ) → written s nodes list out .refusal ≡ 0 → (i : ℕ) → i < length list
+    → bodyOf (boxWritten s nodes list out) (getD list i 0) ≡ blockOf (s .len) nodes (getD list i 0)
 
 -- ---- a box and its session
 

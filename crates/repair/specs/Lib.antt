@@ -1,6 +1,7 @@
 pub mod Session
 pub mod ReadOut
 pub mod Boxed
+pub mod LiveNodes
 pub mod Step
 pub mod Repairs
 pub mod Calls

@@ -14,6 +14,7 @@ use Rattle.repair.specs.declared.Started.{Started}
 use Rattle.repair.specs.declared.Repairs.{Repairs}
 use Rattle.repair.specs.Session.{started, noStart}
 use Rattle.repair.specs.Boxed.{checkedBox, readBox, nodesRead, written, outWritten}
+use Rattle.repair.specs.LiveNodes.{liveListed, outListed}
 use Rattle.repair.specs.ReadOut.{missingIn, readOut, objectOut}
 use Rattle.repair.specs.Step.{stepped, nodesStepped}
 use Rattle.repair.specs.Repairs.{planned, outPlanned, ran, nodesRan}
@@ -44,6 +45,9 @@ pub record RefusalClaim : Type 0 where
   -- write gives length 0 and leaves its destination
   pub write : (s : Session) (nodes list out : List ℕ) → Refused (written s nodes list out .refusal)
       → (written s nodes list out ≡ record { refusal = written s nodes list out .refusal; length = 0; session = s }) × (outWritten s nodes list out ≡ out)
+  -- a list of the live nodes likewise
+  pub live : (s : Session) (out : List ℕ) → Refused (liveListed s out .refusal)
+      → (liveListed s out ≡ record { refusal = liveListed s out .refusal; length = 0; session = s }) × (outListed s out ≡ out)
   -- read out leaves the object; 14 comes with its block, any other with block 0
   pub read-out : (s : Session) (nodes object : List ℕ) → Refused (readOut s nodes object .refusal)
       → (readOut s nodes object ≡ record { refusal = readOut s nodes object .refusal; block = cond (eqb (readOut s nodes object .refusal) 14) (missingIn s) 0; session = s })
@@ -59,6 +63,7 @@ pub record RefusalClaim : Type 0 where
 -- every operation of a session gives 13, whatever is asked for
 pub record Thirteen (s : Session) : Type 0 where
   pub write : (nodes list out : List ℕ) → written s nodes list out .refusal ≡ 13
+  pub live : (out : List ℕ) → liveListed s out .refusal ≡ 13
   pub read-out : (nodes object : List ℕ) → readOut s nodes object .refusal ≡ 13
   pub step : (nodes : List ℕ) (j a b : ℕ) → stepped s nodes j a b .refusal ≡ 13
   pub plan : (out : List ℕ) → planned s out .refusal ≡ 13

@@ -17,6 +17,7 @@ use Rattle.planning.specs.Made.{stepsIn}
 use Rattle.repair.specs.declared.Session.{Session}
 use Rattle.repair.specs.Session.{nodeCountOf, noStart}
 use Rattle.repair.specs.Boxed.{writtenLength, written}
+use Rattle.repair.specs.LiveNodes.{liveNodesOf, liveListed}
 use Rattle.repair.specs.Step.{stepped, nodesStepped}
 use Rattle.repair.specs.Repairs.{planIn, planned, outPlanned, ran, nodesRan}
 use Rattle.repair.specs.ReadOut.{missingIn, readOut, objectOut}
@@ -37,7 +38,7 @@ abbrev pub StepKeepsClaim : Type 0
 StepKeepsClaim = (s : Session) (nodes : List ℕ) (j a b : ℕ) → stepped s nodes j a b .refusal ≡ 0
     → (i : ℕ) → IsNode (familyOf (s .family)) (s .k) i → (i ≡ j → ⊥) → blockOf (s .len) (nodesStepped s nodes j a b) i ≡ blockOf (s .len) nodes i
 
--- ---- plan, run, write and read out
+-- ---- plan, run, write, the live nodes and read out
 
 -- some start gives the session, and the nodes buffer is n × L bytes
 abbrev pub Suits : Session → List ℕ → Type 0
@@ -51,6 +52,8 @@ pub record Accepts (s : Session) : Type 0 where
   -- a write: the list has live nodes of 1 to n alone and strictly rises, and the box fits its destination
   pub write : (nodes list out : List ℕ) → (written s nodes list out .refusal ≡ 0)
       ↔ (Suits s nodes × (someOutside (nodeCountOf s) list ≡ false) × (rises list ≡ true) × (someMissing (s .live) list ≡ false) × (writtenLength s list ≤ length out))
+  -- a list of the live nodes: the buffer has a byte for each
+  pub live : (out : List ℕ) → (liveListed s out .refusal ≡ 0) ↔ ((noStart s ≡ false) × (length (liveNodesOf s) ≤ length out))
   -- read out: the object is k × L bytes, and no data block's node is missing
   pub read-out : (nodes object : List ℕ) → (readOut s nodes object .refusal ≡ 0) ↔ (Suits s nodes × (length object ≡ s .k * s .len) × (missingIn s ≡ 0))
 

@@ -2,7 +2,7 @@
 -- proofs/WholeWayProved.antt has the proofs.
 use mathlib.Core.Path.{_≡_}
 use mathlib.Core.Bool.{true, false}
-use mathlib.Core.List.{List, []}
+use mathlib.Core.List.{List}
 use mathlib.Core.Logic.{_↔_}
 use Prim.Native.Nat.{ℕ, _*_, _≤_, _<_}
 use lib.ListN.{length, getD}
@@ -17,11 +17,12 @@ use Rattle.repair.specs.declared.Session.{Session}
 use Rattle.repair.specs.declared.Started.{Started}
 use Rattle.repair.specs.Session.{acceptedStart, started, nodeCountOf, noStart}
 use Rattle.repair.specs.Boxed.{checkedBox, readBox, nodesRead, written}
+use Rattle.repair.specs.LiveNodes.{liveListed}
 use Rattle.repair.specs.ReadOut.{readOut, objectOut}
 use Rattle.repair.specs.Repairs.{ran, nodesRan}
 use Rattle.repair.specs.Calls.{Move, State, called, Call, stateAfter}
 use Rattle.repair.specs.LeftOver.{lastSession}
-use Rattle.repair.specs.Claims.{boxWritten}
+use Rattle.repair.specs.Claims.{boxWritten, listLeft}
 use Rattle.repair.specs.RepairClaims.{LiveAreOwn}
 
 -- ---- a session and a nodes buffer that go together
@@ -50,14 +51,16 @@ pub record FitsClaim : Type 0 where
   -- a step or run, refused or not, gives back a session that fits the buffer that it leaves, of the same family, k and L
   pub call : (s : Session) (nodes : List ℕ) → Fits s nodes → (move : Move) → Fits (called s nodes move .session) (called s nodes move .nodes)
   pub same : (s : Session) (nodes : List ℕ) (move : Move) → SameCode s (called s nodes move .session)
-  -- a run is accepted, and so is a write of every live node where there is room for all n
+  -- a run is accepted, and where there is room for all n, so are a list of the live nodes and a write by it
   pub run : (s : Session) (nodes : List ℕ) → Fits s nodes → ran s nodes .refusal ≡ 0
-  pub write : (s : Session) (nodes out : List ℕ) → Fits s nodes → boxLength (nodeCountOf s) (s .len) ≤ length out → written s nodes [] out .refusal ≡ 0
+  pub list : (s : Session) (nodes room : List ℕ) → Fits s nodes → nodeCountOf s ≤ length room → liveListed s room .refusal ≡ 0
+  pub write : (s : Session) (nodes room out : List ℕ) → Fits s nodes → liveListed s room .refusal ≡ 0 → boxLength (nodeCountOf s) (s .len) ≤ length out
+      → written s nodes (listLeft s room) out .refusal ≡ 0
 
 -- the box of every live node checks to the session that it was written from
 abbrev pub WriteLiveClaim : Type 0
-WriteLiveClaim = (s : Session) (nodes out : List ℕ) → length (s .live) ≡ 256 → written s nodes [] out .refusal ≡ 0
-    → checkedBox (boxWritten s nodes [] out) ≡ acceptedStart s
+WriteLiveClaim = (s : Session) (nodes room out : List ℕ) → length (s .live) ≡ 256 → liveListed s room .refusal ≡ 0
+    → written s nodes (listLeft s room) out .refusal ≡ 0 → checkedBox (boxWritten s nodes (listLeft s room) out) ≡ acceptedStart s
 
 -- ---- the object's own blocks
 

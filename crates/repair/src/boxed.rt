@@ -14,7 +14,7 @@ ghost use Rattle.lists.specs.Lists.{someOutside, rises, listChecks, someMissing
 ghost use Rattle.boxes.specs.Box.{boxLength, boxChecks};
 ghost use Rattle.boxes.specs.Bodies.{boxOf};
 ghost use Rattle.repair.specs.Session.{nodeCountOf, noStart, nodesChecks};
-ghost use Rattle.repair.specs.Boxed.{sessionIn, checkedBox, readBox, nodesRead, written, outWritten};
+ghost use Rattle.repair.specs.Boxed.{sessionIn, checkedBox, readBox, nodesRead, refusedWrite, written, outWritten};
 
 // The session of an accepted box.
 fn box_session(bytes: &[u8]) -> Session
@@ -88,21 +88,30 @@ impl Session {
         0
     }
 
-    // The box of a rising list of live nodes, or 6 where the destination is too short.
-    fn write_listed(self, nodes: &[u8], list: &[u8], out: &mut [u8]) -> Written
-        requires { ⌜ (noStart self ≡ false) × (length (now nodes) ≡ nodeCountOf self * self .len) ⌝ }
-        requires { ⌜ (someOutside (nodeCountOf self) (now list) ≡ false) × (rises (now list) ≡ true) ⌝ }
-        ensures { λ r. ⌜ r ≡ cond (ltb (length (now (out .entry))) (boxLength (length (now (list .entry))) (self .len))) (record { refusal = 6; length = 0; session = self }) (record { refusal = 0; length = boxLength (length (now (list .entry))) (self .len); session = self }) ⌝ }
-        ensures { λ _. ⌜ now (out .exit) ≡ cond (ltb (length (now (out .entry))) (boxLength (length (now (list .entry))) (self .len))) (now (out .entry)) (boxOf (self .family) (self .k) (self .len) (now (list .entry)) (now (nodes .entry)) ++ drop (boxLength (length (now (list .entry))) (self .len)) (now (out .entry))) ⌝ }
+    // A refused write, or list of live nodes.
+    pub fn not_written(self, number: u8) -> Written
+        ensures { λ r. ⌜ r ≡ refusedWrite self number ⌝ }
     {
+        Written {
+            refusal: number,
+            length: 0,
+            session: self,
+        }
+    }
+
+    // The box of the listed nodes, all of them live.
+    pub fn write(self, nodes: &[u8], list: &[u8], out: &mut [u8]) -> Written
+        ensures { λ r. ⌜ r ≡ written self (now (nodes .entry)) (now (list .entry)) (now (out .entry)) ⌝ }
+        ensures { λ _. ⌜ now (out .exit) ≡ outWritten self (now (nodes .entry)) (now (list .entry)) (now (out .entry)) ⌝ }
+    {
+        let bad = self.list_refusal(nodes.len(), list);
+        if bad != 0 {
+            return self.not_written(bad);
+        }
         let count = list.len();
         let needed = 8 + count + count * self.len;
         if out.len() < needed {
-            return Written {
-                refusal: 6,
-                length: 0,
-                session: self,
-            };
+            return self.not_written(6);
         }
         boxes::write_box(self.family, self.k, self.len, list, nodes, out);
         Written {
@@ -110,37 +119,5 @@ impl Session {
             length: needed,
             session: self,
         }
-    }
-
-    // The box of every live node, or 6 where the destination is too short.
-    fn write_live(self, nodes: &[u8], out: &mut [u8]) -> Written
-        requires { ⌜ (noStart self ≡ false) × (length (now nodes) ≡ nodeCountOf self * self .len) ⌝ }
-        ensures { λ r. ⌜ r ≡ cond (ltb (length (now (out .entry))) (boxLength (length (liveNodes (self .live) (nodeCountOf self))) (self .len))) (record { refusal = 6; length = 0; session = self }) (record { refusal = 0; length = boxLength (length (liveNodes (self .live) (nodeCountOf self))) (self .len); session = self }) ⌝ }
-        ensures { λ _. ⌜ now (out .exit) ≡ cond (ltb (length (now (out .entry))) (boxLength (length (liveNodes (self .live) (nodeCountOf self))) (self .len))) (now (out .entry)) (boxOf (self .family) (self .k) (self .len) (liveNodes (self .live) (nodeCountOf self)) (now (nodes .entry)) ++ drop (boxLength (length (liveNodes (self .live) (nodeCountOf self))) (self .len)) (now (out .entry))) ⌝ }
-    {
-        let n = families::node_count_of(self.family, self.k);
-        let live = self.live;
-        let all = lists::list_live(&live, n);
-        let count = lists::count_live(&live, n);
-        self.write_listed(nodes, &all[..count], out)
-    }
-
-    // The box of the listed nodes, all of them live; an empty list stands for every live node.
-    pub fn write(self, nodes: &[u8], list: &[u8], out: &mut [u8]) -> Written
-        ensures { λ r. ⌜ r ≡ written self (now (nodes .entry)) (now (list .entry)) (now (out .entry)) ⌝ }
-        ensures { λ _. ⌜ now (out .exit) ≡ outWritten self (now (nodes .entry)) (now (list .entry)) (now (out .entry)) ⌝ }
-    {
-        let bad = self.list_refusal(nodes.len(), list);
-        if bad != 0 {
-            return Written {
-                refusal: bad,
-                length: 0,
-                session: self,
-            };
-        }
-        if list.len() == 0 {
-            return self.write_live(nodes, out);
-        }
-        self.write_listed(nodes, list, out)
     }
 }

@@ -1,6 +1,7 @@
 // Sessions: which nodes of an object are live, and what is done with them.
 mod boxed;
 mod by_pairs;
+mod live;
 mod out;
 mod start;
 mod step;
@@ -23,7 +24,7 @@ pub struct Started {
     pub session: Session,
 }
 
-// What writing a box gives: its length, or the refusal's number and 0.
+// What writing a box or listing the live nodes gives: how many bytes are written, or the refusal's number and 0.
 pub struct Written {
     pub refusal: u8,
     pub length: usize,

@@ -6,7 +6,7 @@
 
 use core::ffi::c_int;
 use core::panic::PanicInfo;
-use mogtriz::{PLAN_ROOM, Refusal, SIMPLEX, Session};
+use mogtriz::{MOST_NODES, PLAN_ROOM, Refusal, SIMPLEX, Session};
 
 const OBJECT: &[u8; 24] = b"vowels of one disc, 1952";
 
@@ -35,7 +35,9 @@ fn store_and_repair() -> Result<(), Refusal> {
     mogtriz::encode(SIMPLEX, 3, 8, OBJECT, &mut nodes)?;
     let mut bytes = [0; 8 + 3 + 3 * 8];
     let session = Session::start(SIMPLEX, 3, 8, &[4, 5, 7])?;
-    let length = session.write(&nodes, &[], &mut bytes)?;
+    let mut list = [0; MOST_NODES];
+    let count = session.live_nodes_into(&mut list)?;
+    let length = session.write(&nodes, &list[..count], &mut bytes)?;
     assert!(length == session.box_len(3)?);
 
     nodes.fill(0);

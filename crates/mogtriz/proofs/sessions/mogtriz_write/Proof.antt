@@ -9,8 +9,8 @@ use Rattle.mogtriz.proofs.sessions.mogtriz_write.Tie as tie
 returns : tie.Need-returns
 unfolding writtenC
 returns c =
-    let w = c .before .before .write .ensures in
-    rw (w .0, w .1, c .before .before .before .before .session .ensures) (refl, refl)
+    let w = c .before .before .before .write .ensures in
+    rw (c .length-for-c .ensures, w .0, w .1, c .before .before .before .before .before .session .ensures) (refl, refl)
 
 pub mogtriz-write-spec : {M : Type 1} → statement M
-mogtriz-write-spec = tie.close (tie.spec (λ c κs. tt) (λ c κs. tt) (λ c. search needs) returns)
+mogtriz-write-spec = tie.close (tie.spec (λ c κs. tt) (λ c κs. tt) (λ c κs. tt) (λ c. search needs) returns)
