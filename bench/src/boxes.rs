@@ -123,7 +123,7 @@ fn live_list(word: &str, live: &[u8], meter: &mut Meter) -> Line {
     let ways: [Way; 2] = [&mogtriz, &rust];
     let mut out = Aligned::unfilled(live.len());
     Line {
-        name: family.name(k, format!("{word} live")),
+        name: family.name(k, word),
         goals: vec![None],
         measured: meter.compare_and_measure(&ways, &[], &mut out, live, 0),
     }

@@ -71,8 +71,9 @@ run-gives c =
 list-gives : (c : tie.After-live-nodes) → (c .live-nodes .result ≡ liveListed (next (run-of c)) lent) × (c .live-nodes .last .1 .0 ≡ outListed (next (run-of c)) lent)
 list-gives c =
     let e = c .live-nodes .ensures in
-    let s = ap (λ (r : Repairs). r .session) (run-gives (run-of c) .0) in
-    (e .0 ∙ ap (λ (t : Session). liveListed t lent) s, e .1 ∙ ap (λ (t : Session). outListed t lent) s)
+    let given-is = read-gives (read-of (run-of c)) in
+    let ran-is = run-gives (run-of c) .0 in
+    (e .0 ∙ cc, e .1 ∙ cc)
 
 listed : (c : tie.After-live-nodes) → LiveListClaims (next (run-of c)) lent
 listed c =
@@ -98,7 +99,8 @@ returns c =
     let s = start (read-of r) in
     let out = s .args .out .now in
     let claims = written-claims (s .args .input .now) (s .pre .0) (s .args .nodes .now) (s .pre .1 .0) lent refl out (s .pre .1 .1) in
-    let session-is = ap (λ (r : Repairs). r .session) (run-gives r .0) in
+    let given-is = read-gives (read-of r) in
+    let ran-is = run-gives r .0 in
     let nodes-are = run-gives r .1 in
     let names-are = names l in
     let wrote : w .write .result ≡ written (next r) (after r) (listLeft (next r) lent) out = w .write .ensures .0 ∙ cc in
