@@ -1,6 +1,6 @@
 /*
- * An object is stored as a box that keeps three of its seven nodes; the others are planned and repaired, and it is put away whole and
- * read out. It is C99 and C++ alike. Where the library is installed:
+ * An object is stored as a box that keeps three of its seven nodes; the others are planned and repaired, and all seven are put away
+ * and the object read out. It is C99 and C++ alike. Where the library is installed:
  *
  *   cc -std=c99 repair.c $(pkg-config --cflags --libs mogtriz) -o repair && ./repair
  */
@@ -99,7 +99,7 @@ static mogtriz_session repair(mogtriz_session session, buffer nodes)
     return run.session;
 }
 
-/* The box of every live node. They are named one by one: an empty list would give an empty box. */
+/* The box of every live node: all of them are named, as an empty list would give an empty box. */
 static void put_away(mogtriz_session session, buffer nodes)
 {
     uint8_t list[MOGTRIZ_MOST_NODES];

@@ -58,7 +58,7 @@
 #define MOGTRIZ_TETRAHEDRON_LEAST_K 4
 #define MOGTRIZ_TETRAHEDRON_MOST_K 4
 
-/* The most that len, and over all families k and n, can be; the least len is 1. */
+/* The most that len, and over all families k and n, can be; the least len is 1. No list of nodes is longer than MOGTRIZ_MOST_NODES. */
 #define MOGTRIZ_MOST_LEN 1536
 #define MOGTRIZ_MOST_K MOGTRIZ_WEIGHT_TWO_MOST_K
 #define MOGTRIZ_MOST_NODES 255
@@ -225,7 +225,10 @@ typedef struct {
     size_t length;
 } mogtriz_part;
 
-/* A session with the nodes of a list live, a byte a node, strictly rising; an empty list sets none. Gives 0 or: 1, 2, 3, 4, 5. */
+/*
+ * A session with the nodes of a list live, a byte a node, strictly rising; an empty list sets none. Gives 0 or: 1, 2, 3, 4 over the
+ * whole list, 5.
+ */
 MOGTRIZ_CALL mogtriz_started mogtriz_start(size_t family, size_t k, size_t len, const uint8_t *list, size_t list_len);
 
 /*
@@ -251,16 +254,19 @@ MOGTRIZ_CALL mogtriz_started mogtriz_read(const uint8_t *box, size_t box_len, ui
 MOGTRIZ_CALL mogtriz_part mogtriz_body(const uint8_t *box, size_t box_len, size_t node);
 
 /*
- * A box of the listed live nodes; an empty list stands for no node, and gives a box of MOGTRIZ_BOX_HEAD bytes with E = 0. Whoever wants
- * every live node names them all, by mogtriz_live_nodes. Nothing beyond the length is written. Gives 0 or: 13, 6 where nodes_len is
- * not n * len, 4, 5, 12 where a listed node is missing, 6 where the destination is shorter than the box.
+ * A box of the listed live nodes. An empty list stands for no node, and gives a box of MOGTRIZ_BOX_HEAD bytes with E = 0; before version
+ * 4 it stood for every live node. Whoever wants every live node hands in the list that mogtriz_live_nodes makes. A box that is read, and
+ * written with that list or with its own, which is its E bytes from MOGTRIZ_BOX_HEAD on, has the same bytes. Nothing beyond the length is
+ * written. Gives 0 or: 13, 6 where nodes_len is not n * len, 4 over the whole list, 5, 12 where a listed node is missing, 6 where the
+ * destination is shorter than the box.
  */
 MOGTRIZ_CALL mogtriz_written mogtriz_write(mogtriz_session session, const uint8_t *nodes, size_t nodes_len, const uint8_t *list,
                                            size_t list_len, uint8_t *out, size_t out_len);
 
 /*
  * The session's live nodes, rising, a byte each: a list for mogtriz_write and mogtriz_start. `length` is their number, and nothing
- * beyond it is written; MOGTRIZ_MOST_NODES bytes are room for any. Gives 0 or: 13, 6 where the buffer is shorter than the list.
+ * beyond them is written. MOGTRIZ_MOST_NODES bytes are room for any session's list; mogtriz_live_count says how many it takes. Gives 0
+ * or: 13, 6 where the buffer is shorter than the list.
  */
 MOGTRIZ_CALL mogtriz_written mogtriz_live_nodes(mogtriz_session session, uint8_t *out, size_t out_len);
 
@@ -471,7 +477,10 @@ static inline size_t mogtriz_box_len(size_t family, size_t k, size_t len, size_t
     return MOGTRIZ_BOX_HEAD + held + held * len;
 }
 
-/* How many nodes are live: the room that mogtriz_live_nodes needs, and the `held` of a box of every live node. */
+/*
+ * How many nodes are live, in a session that some start gives: the room that mogtriz_live_nodes needs, and the `held` of a box of every
+ * live node. Of any other session it is how many of the marks from 1 on are 1.
+ */
 static inline size_t mogtriz_live_count(mogtriz_session session)
 {
     size_t count = 0;

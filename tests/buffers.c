@@ -90,15 +90,15 @@ static uint8_t null_fault(int fault)
     case 10:
         return mogtriz_write(three_live(), three_nodes, sizeof three_nodes, kept, sizeof kept, null, sizeof out).refusal;
     case 11:
-        return mogtriz_read_out(three_live(), null, N, again, sizeof again).refusal;
-    case 12:
-        return mogtriz_read_out(three_live(), three_nodes, sizeof three_nodes, null, K).refusal;
-    case 13:
-        return mogtriz_step(three_live(), null, N, 1, 4, 5).refusal;
-    case 14:
-        return mogtriz_plan(three_live(), null, 1).refusal;
-    case 15:
         return mogtriz_live_nodes(three_live(), null, 1).refusal;
+    case 12:
+        return mogtriz_read_out(three_live(), null, N, again, sizeof again).refusal;
+    case 13:
+        return mogtriz_read_out(three_live(), three_nodes, sizeof three_nodes, null, K).refusal;
+    case 14:
+        return mogtriz_step(three_live(), null, N, 1, 4, 5).refusal;
+    case 15:
+        return mogtriz_plan(three_live(), null, 1).refusal;
     default:
         return mogtriz_run(three_live(), null, N).refusal;
     }

@@ -103,7 +103,8 @@ static void hold_box_length(size_t family, size_t k, size_t len, size_t held)
     }
     mogtriz_session session = mogtriz_start(family, k, len, list, held).session;
     EXPECT(mogtriz_live_count(session) == held);
-    EXPECT(mogtriz_live_nodes(session, room, held).length == held && memcmp(room, list, held) == 0);
+    mogtriz_written listed = mogtriz_live_nodes(session, room, held);
+    EXPECT(listed.refusal == MOGTRIZ_SERVED && listed.length == held && memcmp(room, list, held) == 0);
     mogtriz_written written = mogtriz_write(session, long_nodes, nodes_len, list, held, long_box, box_len);
     EXPECT(written.refusal == MOGTRIZ_SERVED && written.length == box_len);
     written = mogtriz_write(session, long_nodes, nodes_len, list, held, long_box, box_len - 1);

@@ -19,7 +19,7 @@ static uint8_t stack[STACK];
 static mogtriz_session session;
 static uint8_t list[MOGTRIZ_MOST_NODES], plan[MOGTRIZ_PLAN_ROOM];
 static uint8_t object[MOGTRIZ_MOST_OBJECT_LEN], nodes[MOGTRIZ_MOST_NODES_LEN], box[MOGTRIZ_MOST_BOX_LEN], out[MOGTRIZ_MOST_BOX_LEN];
-static size_t list_len, object_len, nodes_len, box_len;
+static size_t list_len, object_len, nodes_len, box_len, room;
 
 /* What a call gave: nobody looks at it, and no compiler may leave it out. */
 static volatile size_t given;
@@ -81,7 +81,7 @@ static void write_box(void)
 
 static void live_nodes(void)
 {
-    given = mogtriz_live_nodes(session, plan, sizeof plan).refusal;
+    given = mogtriz_live_nodes(session, plan, room).refusal;
 }
 
 static void read_out(void)
@@ -168,7 +168,9 @@ static void measure_live(size_t family, size_t k, size_t len)
     object_len = mogtriz_object_len(family, k, len);
     nodes_len = mogtriz_nodes_len(family, k, len);
     box_len = mogtriz_write(session, nodes, nodes_len, list, list_len, box, sizeof box).length;
+    room = list_len;
     measure_all();
+    room -= room > 0;
     object_len -= object_len > 0;
     nodes_len -= nodes_len > 0;
     box_len -= box_len > 0;

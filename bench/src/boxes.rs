@@ -103,14 +103,8 @@ pub fn tables(random: &mut Random, meter: &mut Meter) -> [Table; 2] {
     ]
 }
 
-/// The live nodes of a code, and how the table names them.
-fn live_list(word: &str, live: &[u8], meter: &mut Meter) -> Line {
-    let (family, k) = (Family::WeightTwo, 22);
-    let shape = Shape {
-        family: family as usize,
-        k,
-        len: 1,
-    };
+/// A line for the list of these live nodes of weight-two.
+fn live_list(shape: Shape, word: &str, live: &[u8], meter: &mut Meter) -> Line {
     let session = handed_in(shape.session(live));
     let mogtriz = |_: &[u8], out: &mut [u8]| {
         let count = session.live_nodes_into(out);
@@ -123,14 +117,19 @@ fn live_list(word: &str, live: &[u8], meter: &mut Meter) -> Line {
     let ways: [Way; 2] = [&mogtriz, &rust];
     let mut out = Aligned::unfilled(live.len());
     Line {
-        name: family.name(k, word),
+        name: Family::WeightTwo.name(shape.k, word),
         goals: vec![None],
         measured: meter.compare_and_measure(&ways, &[], &mut out, live, 0),
     }
 }
 
 pub fn live_lists(random: &mut Random, meter: &mut Meter) -> Table {
-    let all: Vec<u8> = (1..=253).collect();
+    let shape = Shape {
+        family: Family::WeightTwo as usize,
+        k: 22,
+        len: 1,
+    };
+    let all = shape.all_nodes();
     let chosen = |_: &&u8| random.below(2) == 0;
     let half: Vec<u8> = all.iter().filter(chosen).copied().collect();
     let lines = [("all", &all[..]), ("half", &half), ("none", &[])];
@@ -138,7 +137,7 @@ pub fn live_lists(random: &mut Random, meter: &mut Meter) -> Table {
         title: "list the live nodes",
         ways: &WAYS,
         lines: lines
-            .map(|(word, live)| live_list(word, live, meter))
+            .map(|(word, live)| live_list(shape, word, live, meter))
             .into(),
     }
 }

@@ -1,5 +1,5 @@
-//! Encoding, boxes, lists of live nodes, plans, runs and relations, timed against other ways to fill the same buffers; with `--count`, the
-//! instructions of one call of each; with `--related`, what a relation takes for every triple of weight-two 22.
+//! Encoding, boxes, lists of live nodes, plans, runs and relations, timed against other ways to fill the same buffers; with
+//! `--count`, the instructions of one call of each; with `--related`, what a relation takes for every triple of weight-two 22.
 mod boxes;
 mod callgrind;
 mod counting;

@@ -80,7 +80,7 @@ pub fn write(session: Session, nodes: &[u8], list: &[u8], out: &mut [u8]) -> Wri
     written(session, box_for(&session, nodes, list, out.len()), out)
 }
 
-/// The live nodes put in a lent buffer (document 02, K7).
+/// The live nodes put in a lent buffer.
 pub fn list_live(session: Session, out: &mut [u8]) -> Written {
     written(session, live_list_for(&session, out.len()), out)
 }

@@ -46,6 +46,7 @@ fn every_live_node(session: Session) -> Vec<u8> {
     let mut out = [0; 255];
     let listed = library::live_nodes(session, &mut out);
     assert_eq!(listed.refusal, 0, "{session:?}");
+    assert_eq!(raw::live_nodes(session, &mut out), listed, "{session:?}");
     out[..listed.length].to_vec()
 }
 
@@ -114,10 +115,8 @@ fn an_accepted_box_written_again_has_the_same_bytes() {
             let own = &bytes[HEAD..HEAD + list.len()];
             let live = every_live_node(session);
             assert_eq!(live, own, "{session:?}");
-            for list in [own, &live] {
-                let again = write(session, nodes.bytes(), list);
-                assert!(again == bytes, "{session:?} {list:?}");
-            }
+            let again = write(session, nodes.bytes(), &live);
+            assert!(again == bytes, "{session:?} {live:?}");
             counts[usize::from(list.is_empty())] += 1;
         }
     }

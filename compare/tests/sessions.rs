@@ -144,7 +144,7 @@ fn write_every_short_list(tally: &mut Tally, random: &mut Random) {
 }
 
 #[test]
-fn live_nodes_are_listed_as_the_papers_say() {
+fn live_nodes_are_listed_or_turned_away() {
     let mut random = Random::seeded();
     let mut tally = Tally::of("live nodes");
     let list = |session: Session, random: &mut Random| {
@@ -170,7 +170,7 @@ fn live_nodes_are_listed_as_the_papers_say() {
     tally.report(&[0, 6, 13], 200_000);
 }
 
-/// The first nodes of a code live, and the last ones, as many as there are of both, into just enough room and a byte less.
+/// So many of the first nodes live, then so many of the last, into a byte less than enough, enough, and a byte more.
 fn list_each_count(shape: Shape, tally: &mut Tally) {
     let all = shape.all_nodes();
     for count in 0..=all.len() {

@@ -59,7 +59,7 @@ fn near_n(family: usize, k: usize, choice: u8) -> u8 {
 fn with_nodes(session: Session, nodes: &mut [u8], list: &[u8], bytes: &[u8]) {
     let mut again = vec![0; bytes.len()];
     let own = live_nodes(&session);
-    assert_eq!(own, bytes[HEAD..HEAD + own.len()]);
+    assert_eq!(own, bytes[HEAD..HEAD + usize::from(bytes[4])]);
     count(LiveNodes, calls::live_nodes(session, own.len()));
     let written = library::write(session, nodes, &own, &mut again);
     assert_eq!((written.refusal, &again[..]), (0, bytes));

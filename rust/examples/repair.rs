@@ -1,5 +1,5 @@
 //! The example of examples/repair.c in Rust; both print the same lines. An object is stored as a box that keeps three of its
-//! seven nodes, the others are planned and repaired, and it is put away whole and read out.
+//! seven nodes, the others are planned and repaired, and all seven are put away and the object read out.
 use mogtriz::{Refusal, SIMPLEX, Session, Step};
 
 const K: usize = 3;

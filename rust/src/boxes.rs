@@ -127,11 +127,11 @@ impl Session {
         Ok(answer.length)
     }
 
-    /// Lists the live nodes, rising, a byte each, and gives their number. The list is one for [`write`](Session::write), which
-    /// makes a box of every live node of it, and for [`start`](Session::start).
+    /// Lists the live nodes, rising, a byte each, and gives their number. It is a list for [`start`](Session::start), and for
+    /// [`write`](Session::write), which then makes a box of every live node.
     ///
     /// It takes a buffer, of which what lies beyond the list is not written; [`MOST_NODES`](crate::MOST_NODES) bytes are room for
-    /// any. [`live_nodes`](Session::live_nodes) goes through the marks of any content instead, and refuses none.
+    /// any. [`live_nodes`](Session::live_nodes) goes through the marks of a session of any content and never refuses.
     ///
     /// # Errors
     ///

@@ -48,17 +48,19 @@
 //!
 //! # Sessions
 //!
-//! A [`Session`] says which nodes are live. [`step`](Session::step) and [`run`](Session::run) repair nodes and borrow it
-//! as mutable, to mark them live; [`plan`](Session::plan), [`write`](Session::write),
-//! [`live_nodes_into`](Session::live_nodes_into) and [`read_out`](Session::read_out) only look at it. After an encode every node is at hand: a [`start`](Session::start) with the list 1 to n says so. For a node
-//! that is lost or found damaged later, start anew without it.
+//! A [`Session`] says which nodes are live. [`step`](Session::step) and [`run`](Session::run) repair nodes and borrow it as
+//! mutable, to mark them live; [`plan`](Session::plan), [`write`](Session::write),
+//! [`live_nodes_into`](Session::live_nodes_into) and [`read_out`](Session::read_out) only look at it. After an encode every
+//! node is at hand: a [`start`](Session::start) with the list 1 to n says so. For a node that is lost or found damaged later,
+//! start anew without it.
 //!
 //! # Buffers and features
 //!
-//! Calls write to buffers that the caller lends; [`nodes_len`], [`object_len`], [`box_len`] and [`PLAN_ROOM`] say how long they
-//! have to be. With the feature `alloc`, which is on unless `default-features = false` is said, encode, read, write, live nodes,
-//! read out and plan have a second form that gives a `Vec` instead, by the name with `_to_vec` at its end. Without it the package
-//! needs neither the standard library nor an allocator.
+//! Calls write to buffers that the caller lends; [`nodes_len`], [`object_len`], [`box_len`], [`PLAN_ROOM`] and, for a list of
+//! nodes, [`MOST_NODES`] say how long they have to be. With the feature `alloc`, which is on unless `default-features = false`
+//! is said, encode, read, write, live nodes, read out and plan have a second form that gives a `Vec` instead, by the name with
+//! `_to_vec` at its end, as `write_to_vec` and `live_nodes_to_vec`. Without it the package needs neither the standard library
+//! nor an allocator.
 #![no_std]
 #![deny(unsafe_code, missing_docs)]
 

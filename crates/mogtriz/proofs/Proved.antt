@@ -3,12 +3,12 @@
 use mathlib.Core.Path.{_≡_, refl, sym, ap, _∙_}
 use mathlib.Core.Bool.{Bool, true, false}
 use mathlib.Core.Logic.{_⊎_, inl, inr}
-use mathlib.Core.List.{map}
+use mathlib.Core.List.{List, map}
 use Prim.Native.Nat.{ℕ}
 use native.Mathlib.Omega.{arith}
 use borrow.Author.Tests.{eqb-true, eqb-false, le-leb}
 use lib.Dec.{eqb}
-use lib.ListN.{take, length-map}
+use lib.ListN.{length-map}
 use Rattle.checks.specs.Checks.{firstMet}
 use Rattle.families.specs.Families.{familyOf, IsNode, nodeCount, nodeOf}
 use Rattle.checks.specs.Claims.{InRange}
@@ -16,14 +16,15 @@ use Rattle.checks.proofs.Laws.{range-claim}
 use Rattle.boxes.specs.Box.{bodyChecks, bodyOf}
 use Rattle.checks.specs.Parameters.{parameterChecks}
 use Rattle.repair.specs.Session.{sessionWith, started, noStart}
-use Rattle.repair.specs.LiveNodes.{outListed}
-use Rattle.repair.proofs.Proved.{live-list-claim}
+use Rattle.repair.specs.Boxed.{readBox, nodesRead}
+use Rattle.repair.specs.Claims.{WrittenAgain}
+use Rattle.repair.proofs.Proved.{live-list-claim, read-write-claim}
 use Rattle.repair.proofs.RefusalsProved.{refusal-claim, thirteen-claim}
 use Rattle.mogtriz.specs.declared.sessions.MarkedSession.{MarkedSession}
-use Rattle.mogtriz.specs.Sessions.{markOf, someAbove1, sessionOfC, startedC, writtenC, liveListedC, readOutC, partIn}
+use Rattle.mogtriz.specs.Sessions.{markOf, someAbove1, sessionForC, sessionOfC, startedC, writtenC, liveListedC, readOutC, partIn}
 use Rattle.mogtriz.specs.Exports.{nodeCountOr0, isNode, columnOr0, nodeOr0, relatedOr0}
 use Rattle.mogtriz.specs.Repairs.{steppedC, plannedC, ranC}
-use Rattle.mogtriz.specs.Claims.{ThereAndBackClaim, BackAndThereClaim, StartedMarksClaim, HandedBackClaim, RefusedStartClaim, TurnedAwayClaim, ThirteenC, ThirteenCClaim, LiveListCClaim, SameFieldsClaim, PartOf, PartClaim, AnswersClaim, AgreeClaim}
+use Rattle.mogtriz.specs.Claims.{ThereAndBackClaim, BackAndThereClaim, StartedMarksClaim, HandedBackClaim, RefusedStartClaim, TurnedAwayClaim, ThirteenC, ThirteenCClaim, listLeftC, LiveListCClaim, WrittenAgainC, ReadWriteCClaim, SameFieldsClaim, PartOf, PartClaim, AnswersClaim, AgreeClaim}
 use Rattle.mogtriz.proofs.Laws.{count-accepted}
 use Rattle.mogtriz.proofs.MarkLaws.{marks-back, bytes-back, marks-low}
 use Rattle.mogtriz.proofs.AnswerLaws.{kept-session, step-low, run-low, step-done, run-done, handed-on, plan-kept, write-kept, live-kept, read-out-kept}
@@ -92,7 +93,7 @@ unfolding liveListedC sessionOfC
 live-list-c-claim s out size h = go (someAbove1 (s .live)) refl
   where
     go : (above : Bool) → someAbove1 (s .live) ≡ above
-        → startedC (started (s .family) (s .k) (s .len) (take (liveListedC s out .length) (outListed (sessionOfC s) out))) ≡ record { refusal = 0; session = s }
+        → startedC (started (s .family) (s .k) (s .len) (listLeftC s out)) ≡ record { refusal = 0; session = s }
     go true e = absurd (omega (arith, h, thirteen-c-claim s (inl e) .live out))
     go false e =
         let is : sessionOfC s ≡ sessionWith (s .family) (s .k) (s .len) (map markOf (s .live)) = rw e in
@@ -146,3 +147,16 @@ agree-claim s =
       live = λ out. rw (back, live-kept s out);
       read-out = λ nodes object. rw (back, read-out-kept s nodes object);
     }
+
+-- a session in C's form writes what the session writes
+written-again : (bytes nodes list out : List ℕ) → WrittenAgain bytes nodes list out → WrittenAgainC (sessionForC (readBox bytes nodes .session)) bytes nodes list out
+written-again bytes nodes list out w =
+    let s = readBox bytes nodes .session in
+    record { answer = agree-claim s .write (nodesRead bytes nodes) list out ∙ rw (w .answer); rest = rw (there-and-back s) (w .rest) }
+
+pub read-write-c-claim : ReadWriteCClaim
+unfolding liveListedC
+read-write-c-claim bytes nodes out byte h room =
+    let s = readBox bytes nodes .session in
+    let own = read-write-claim bytes nodes out byte h room in
+    (written-again bytes nodes _ out (own .0), λ lent l. rw (there-and-back s) (written-again bytes nodes _ out (own .1 lent (rw (there-and-back s) at l))))

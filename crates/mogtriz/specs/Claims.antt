@@ -147,10 +147,26 @@ AgreeClaim = (s : Session) → Agree s
 
 -- ---- the live nodes, listed
 
--- mogtriz_start by the list that an accepted mogtriz_live_nodes leaves gives the session
+-- the list that mogtriz_live_nodes leaves at the start of its buffer, by the length that it gives
+abbrev pub listLeftC : MarkedSession → List ℕ → List ℕ
+listLeftC s out = take (liveListedC s out .length) (outListed (sessionOfC s) out)
+
+-- where it is accepted, mogtriz_start by that list gives the session
 abbrev pub LiveListCClaim : Type 0
 LiveListCClaim = (s : MarkedSession) (out : List ℕ) → length (s .live) ≡ 256 → liveListedC s out .refusal ≡ 0
-    → startedC (started (s .family) (s .k) (s .len) (take (liveListedC s out .length) (outListed (sessionOfC s) out))) ≡ record { refusal = 0; session = s }
+    → startedC (started (s .family) (s .k) (s .len) (listLeftC s out)) ≡ record { refusal = 0; session = s }
+
+-- what mogtriz_read gives and leaves of a box is written by a list: mogtriz_write accepts it, and leaves the length and the bytes of the box
+pub record WrittenAgainC (s : MarkedSession) (bytes nodes list out : List ℕ) : Type 0 where
+  pub answer : writtenC s (nodesRead bytes nodes) list out ≡ record { refusal = 0; length = length bytes; session = s }
+  pub rest : outWritten (sessionOfC s) (nodesRead bytes nodes) list out ≡ bytes ++ drop (length bytes) out
+
+-- so it is, before any repair, by the box's own list and by the one that mogtriz_live_nodes leaves
+abbrev pub ReadWriteCClaim : Type 0
+ReadWriteCClaim = (bytes nodes out : List ℕ) → getD bytes 2 0 < 256 → startedC (readBox bytes nodes) .refusal ≡ 0 → length bytes ≤ length out
+    → WrittenAgainC (startedC (readBox bytes nodes) .session) bytes nodes (namesIn bytes) out
+    × ((room : List ℕ) → liveListedC (startedC (readBox bytes nodes) .session) room .refusal ≡ 0
+    → WrittenAgainC (startedC (readBox bytes nodes) .session) bytes nodes (listLeftC (startedC (readBox bytes nodes) .session) room) out)
 
 -- ---- the body of a node
 

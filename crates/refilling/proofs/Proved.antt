@@ -215,6 +215,11 @@ module _ (input : List ℕ) (passes : checkedBox input .refusal ≡ 0) (short : 
   reads-again : readBox first (zeros first passes-again short-again) .refusal ≡ 0
   reads-again = reads first passes-again (zeros first passes-again short-again) (zeros-fit first passes-again short-again)
 
+  -- the session is the one after the first run
+  session-again : readBox first (zeros first passes-again short-again) .session ≡ next input passes short
+  session-again =
+      ap (λ (r : Started). r .session) (read-is first passes-again (zeros first passes-again short-again) (zeros-fit first passes-again short-again) ∙ checked input passes short)
+
   -- the second run leaves session and buffer as they were
   abbrev room-of : Session → ℕ
   room-of s = nodeCountOf s * s .len
@@ -240,8 +245,8 @@ module _ (input : List ℕ) (passes : checkedBox input .refusal ≡ 0) (short : 
       is-box first passes-again short-again
       ∙ ap (λ (r : Started). liveBox (afterRun (r .session) read-again) (nodesRan (r .session) read-again)) (checked input passes short)
       ∙ ap₂ (λ (r : Repairs) (b : List ℕ). liveBox (r .session) b) (quiet .answer) (quiet .nodes-are)
-      ∙ ap₂ (λ (s : Session) (list : List ℕ). boxOf (s .family) (s .k) (s .len) list read-again) (sym (session-kept input passes short)) own-list
-      ∙ sym (write-read-claim (sessionIn first) read-again (namesIn first) first (ap (λ (r : Written). r .refusal) (w .answer)) .box)
+      ∙ ap₂ (λ (s : Session) (list : List ℕ). boxOf (s .family) (s .k) (s .len) list read-again) (sym session-again) own-list
+      ∙ sym (write-read-claim (readBox first (zeros first passes-again short-again) .session) read-again (namesIn first) first (ap (λ (r : Written). r .refusal) (w .answer)) .box)
       ∙ w .box
 
 pub refilled-claim : RefilledClaim

@@ -14,7 +14,7 @@ use Rattle.checks.proofs.Laws.{accepted, none-append, some-append}
 use Rattle.checks.proofs.AnswerLaws.{Gives, serves, refuses}
 use Rattle.lists.specs.Lists.{someOutside, rises, listChecks, someMissing}
 use Rattle.lists.proofs.Laws.{list-accepted}
-use Rattle.boxes.specs.Box.{blockLengthIn, namesIn, bodiesIn, nodeCountIn, boxLength, boxChecks}
+use Rattle.boxes.specs.Box.{blockLengthIn, namesIn, bodiesIn, nodeCountIn, boxChecks}
 use Rattle.boxes.specs.Bodies.{boxOf, withBodies}
 use Rattle.boxes.proofs.Answers.{box-none}
 use Rattle.repair.specs.declared.Session.{Session}

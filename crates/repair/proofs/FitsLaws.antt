@@ -37,7 +37,7 @@ use Rattle.repair.proofs.Accepted.{list-accepted}
 use Rattle.repair.proofs.StartLaws.{no-start-marks, nodes-0, accepted-start}
 use Rattle.repair.proofs.LiveListLaws.{live-listed, list-is}
 use Rattle.repair.proofs.StepLaws.{accepted-step}
-use Rattle.repair.proofs.RoundTripLaws.{box-starts, accepted-read, read-size}
+use Rattle.repair.proofs.RoundTripLaws.{box-starts, accepted-read, session-read, read-size}
 use Rattle.repair.proofs.OwnLaws.{session-stepped, nodes-stepped, sized-stepped, session-ran, ran-sized}
 
 -- ---- start and read
@@ -65,13 +65,9 @@ read-same bytes nodes e size =
     rw (reads, e)
 
 module _ (bytes nodes : List ℕ) (e : firstMet (readChecks bytes nodes) ≡ 0) where
-  pub session-read : readBox bytes nodes .session ≡ sessionIn bytes
-  unfolding readBox
-  session-read = rw e
-
   pub read-fits : Fits (readBox bytes nodes .session) (nodesRead bytes nodes)
   read-fits =
-      rw session-read
+      rw (session-read bytes nodes e)
       (record {
         marks = length-setLive noneLive (namesIn bytes);
         starts = box-starts bytes (accepted-box bytes (accepted-read bytes nodes e .passes));

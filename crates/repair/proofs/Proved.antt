@@ -20,10 +20,9 @@ use Rattle.boxes.specs.Bodies.{boxOf}
 use Rattle.boxes.proofs.Answers.{by-page, by-tests, by-box, body-empty}
 use Rattle.boxes.proofs.Laws.{accepted-box}
 use Rattle.boxes.proofs.Proved.{order-claim, body-claim, box-of-body-claim}
-use Rattle.repair.specs.declared.Session.{Session}
 use Rattle.repair.specs.declared.Started.{Started}
 use Rattle.repair.specs.Session.{refusedStart, started, nodeCountOf, noStart, nodesChecks}
-use Rattle.repair.specs.Boxed.{sessionIn, checkedBox, readChecks, writtenLength, writeChecks, written, outWritten}
+use Rattle.repair.specs.Boxed.{checkedBox, readChecks, readBox, writtenLength, writeChecks, written, outWritten}
 use Rattle.repair.specs.LiveNodes.{liveNodesOf}
 use Rattle.repair.specs.Claims.{StartClaim, FromStart, NoStartClaim, StartMarksClaim, WriteReadClaim, EmptyBoxClaim, LiveListClaim, StartListClaim, BoxListClaim, ReadKeepsClaim, WrittenAgain, ReadWriteClaim, ReadBodyClaim, WrittenBodyClaim, BoxStartClaim, RefusedBox, WrongCountClaim, ReadOrderClaim}
 use Rattle.repair.proofs.Accepted.{start-accepted, check-accepted, read-accepted, write-accepted, list-accepted}
@@ -31,7 +30,7 @@ use Rattle.repair.proofs.StartLaws.{start-0, no-start-marks, accepted-s
 use Rattle.repair.proofs.LiveListLaws.{accepted-list, list-is, list-answer, list-rest, live-starts, start-lists}
 use Rattle.repair.proofs.ListedLaws.{place-there, place-before}
 use Rattle.repair.proofs.BoxedLaws.{read-by-box}
-use Rattle.repair.proofs.RoundTripLaws.{accepted-write, box-written, write-answer, write-room, write-rest, box-passes, box-names, box-checked, box-reads, bodies-read, accepted-read, names-are, read-is, read-keeps, again}
+use Rattle.repair.proofs.RoundTripLaws.{accepted-write, box-written, write-answer, write-room, write-rest, box-passes, box-names, box-checked, box-reads, bodies-read, accepted-read, names-are, session-read, read-is, read-keeps, again}
 
 -- ---- start
 
@@ -147,8 +146,10 @@ pub read-write-claim : ReadWriteClaim
 read-write-claim bytes nodes out byte h room =
     let e = read-accepted bytes nodes h in
     let a = accepted-box bytes (accepted-read bytes nodes e .passes) in
+    let s = readBox bytes nodes .session in
+    let own = ap liveNodesOf (session-read bytes nodes e) ∙ names-are bytes a in
     let same = again bytes nodes e byte out room in
-    (same, λ lent l. subst (λ (list : List ℕ). WrittenAgain bytes nodes list out) (sym (list-is (sessionIn bytes) lent (list-accepted (sessionIn bytes) lent l) ∙ names-are bytes a)) same)
+    (same, λ lent l. subst (λ (list : List ℕ). WrittenAgain bytes nodes list out) (sym (list-is s lent (list-accepted s lent l) ∙ own)) same)
 
 -- ---- the body of a node
 

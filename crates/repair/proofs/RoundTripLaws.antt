@@ -188,6 +188,10 @@ module _ (bytes nodes : List ℕ) (e : firstMet (readChecks bytes nodes) ≡ 0) 
   bodies-held = rw (passed .names-size) (passed .bodies-size)
 
   -- what was read
+  pub session-read : readBox bytes nodes .session ≡ sessionIn bytes
+  unfolding readBox
+  session-read = rw e
+
   pub read-is : nodesRead bytes nodes ≡ withBodies (blockLengthIn bytes) nodes (namesIn bytes) (bodiesIn bytes)
   unfolding nodesRead
   read-is = rw e
@@ -217,4 +221,5 @@ module _ (bytes nodes : List ℕ) (e : firstMet (readChecks bytes nodes) ≡ 0) 
         = none-zero (writeChecks s (nodesRead bytes nodes) list out)
         (box-starts bytes passed, (ap not (eq-eqb _ _ read-size), (passed .nodes, (ap not (passed .rising), (names-live bytes passed, (le-ltb (length out) (writtenLength s list) (omega arith), tt)))))) in
         let rest : outWritten s (nodesRead bytes nodes) list out ≡ bytes ++ drop (length bytes) out = rw (none, long, box-again) in
-        record { answer = rw (none, long); rest = rest; box = ap₂ (λ (n : ℕ) (x : List ℕ). take n x) long rest ∙ take-at bytes (drop (length bytes) out) (length bytes) refl }
+        let box = ap₂ (λ (n : ℕ) (x : List ℕ). take n x) long rest ∙ take-at bytes (drop (length bytes) out) (length bytes) refl in
+        record { answer = rw (session-read, none, long); rest = rw session-read rest; box = rw session-read box }

@@ -42,13 +42,13 @@ use Rattle.repair.specs.WholeWay.{Fits, FitsClaim, WriteLiveClaim, Bodie
 use Rattle.repair.proofs.Accepted.{start-accepted, check-accepted, read-accepted, write-accepted, run-accepted}
 use Rattle.repair.proofs.StartLaws.{known, nodes-0}
 use Rattle.repair.proofs.ReadOutLaws.{by-block, accepted-out, read}
-use Rattle.repair.proofs.RoundTripLaws.{accepted-write, box-written, box-checked, accepted-read}
+use Rattle.repair.proofs.RoundTripLaws.{accepted-write, box-written, box-checked, accepted-read, session-read}
 use Rattle.repair.proofs.Proved.{live-list-claim, read-body-claim, written-body-claim, box-start-claim}
 use Rattle.repair.proofs.RepairsProved.{run-claim, own-claim}
 use Rattle.repair.proofs.LeftOverProved.{session-is, demand-3}
 use Rattle.repair.proofs.CallLaws.{FromStart, from-start}
 use Rattle.repair.proofs.OwnLaws.{ran-sized}
-use Rattle.repair.proofs.FitsLaws.{session-started, start-fits, read-same, session-read, read-fits, fits-runs, fits-call, same-code, fits-list, fits-write}
+use Rattle.repair.proofs.FitsLaws.{session-started, start-fits, read-same, read-fits, fits-runs, fits-call, same-code, fits-list, fits-write}
 
 not-true : (b : Bool) → not b ≡ true → b ≡ false
 not-true true h = absurd (false≢true h)

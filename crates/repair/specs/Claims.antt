@@ -113,16 +113,16 @@ ReadKeepsClaim = (bytes nodes : List ℕ) → readBox bytes nodes .refusal ≡ 0
 
 -- what was read from a box is written by a list: it is accepted, and has the length and the bytes of the box
 pub record WrittenAgain (bytes nodes list out : List ℕ) : Type 0 where
-  pub answer : written (sessionIn bytes) (nodesRead bytes nodes) list out ≡ record { refusal = 0; length = length bytes; session = sessionIn bytes }
-  pub rest : outWritten (sessionIn bytes) (nodesRead bytes nodes) list out ≡ bytes ++ drop (length bytes) out
-  pub box : boxWritten (sessionIn bytes) (nodesRead bytes nodes) list out ≡ bytes
+  pub answer : written (readBox bytes nodes .session) (nodesRead bytes nodes) list out ≡ record { refusal = 0; length = length bytes; session = readBox bytes nodes .session }
+  pub rest : outWritten (readBox bytes nodes .session) (nodesRead bytes nodes) list out ≡ bytes ++ drop (length bytes) out
+  pub box : boxWritten (readBox bytes nodes .session) (nodesRead bytes nodes) list out ≡ bytes
 
 -- an accepted box, read into any buffer and written again before any repair, has the same bytes, by its own list, E = 0 included, and
 -- by that of its session's live nodes. That byte 2, the low one of L, is a byte is all that is asked of the list of numbers
 abbrev pub ReadWriteClaim : Type 0
 ReadWriteClaim = (bytes nodes out : List ℕ) → getD bytes 2 0 < 256 → readBox bytes nodes .refusal ≡ 0 → length bytes ≤ length out
     → WrittenAgain bytes nodes (namesIn bytes) out
-    × ((room : List ℕ) → liveListed (sessionIn bytes) room .refusal ≡ 0 → WrittenAgain bytes nodes (listLeft (sessionIn bytes) room) out)
+    × ((room : List ℕ) → liveListed (readBox bytes nodes .session) room .refusal ≡ 0 → WrittenAgain bytes nodes (listLeft (readBox bytes nodes .session) room) out)
 
 -- ---- the body of a node
 

@@ -1,4 +1,4 @@
--- The live nodes of a session, listed (document 02, K7): whoever wants a box of everything names every one of them.
+-- The live nodes of a session, listed: a list for whoever must name every live node to write (document 02, K7).
 use Prim.Native.Nat.{ℕ}
 use mathlib.Core.List.{List, [], _∷_, _++_}
 use lib.ListN.{length, drop}

@@ -4,17 +4,12 @@ use crate::Started;
 use crate::Written;
 use crate::start::refused;
 ghost use mathlib.Core.Path.{_≡_};
-ghost use mathlib.Core.Bool.{true, false, cond};
 ghost use mathlib.Core.List.{[], _∷_, _++_};
-ghost use Prim.Native.Nat.{_*_};
-ghost use lib.ListN.{length, drop};
-ghost use lib.Dec.{ltb};
 ghost use Rattle.checks.specs.Checks.{firstMet, _gives_};
-ghost use Rattle.lists.specs.Lists.{someOutside, rises, listChecks, someMissing, liveNodes};
-ghost use Rattle.boxes.specs.Box.{boxLength, boxChecks};
-ghost use Rattle.boxes.specs.Bodies.{boxOf};
-ghost use Rattle.repair.specs.Session.{nodeCountOf, noStart, nodesChecks};
-ghost use Rattle.repair.specs.Boxed.{sessionIn, checkedBox, readBox, nodesRead, refusedWrite, written, outWritten};
+ghost use Rattle.lists.specs.Lists.{listChecks, someMissing};
+ghost use Rattle.boxes.specs.Box.{boxChecks};
+ghost use Rattle.repair.specs.Session.{nodeCountOf, nodesChecks};
+ghost use Rattle.repair.specs.Boxed.{sessionIn, checkedBox, readBox, nodesRead, written, outWritten};
 
 // The session of an accepted box.
 fn box_session(bytes: &[u8]) -> Session
@@ -86,17 +81,6 @@ impl Session {
             return 12;
         }
         0
-    }
-
-    // A refused write, or list of live nodes.
-    pub fn not_written(self, number: u8) -> Written
-        ensures { λ r. ⌜ r ≡ refusedWrite self number ⌝ }
-    {
-        Written {
-            refusal: number,
-            length: 0,
-            session: self,
-        }
     }
 
     // The box of the listed nodes, all of them live.

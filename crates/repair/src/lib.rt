@@ -8,6 +8,7 @@ mod step;
 
 ghost use mathlib.Core.Path.{_≡_};
 ghost use lib.ListN.{replicate};
+ghost use Rattle.repair.specs.Boxed.{refusedWrite};
 
 // A family, k and L, and a mark for each node number, live or missing. It is plain data: whatever a caller puts into one is
 // refused by the first check of an operation where no start gives it.
@@ -29,6 +30,19 @@ pub struct Written {
     pub refusal: u8,
     pub length: usize,
     pub session: Session,
+}
+
+impl Session {
+    // A refusal of write or live nodes: its number and length 0, the session as handed in.
+    pub fn not_written(self, number: u8) -> Written
+        ensures { λ r. ⌜ r ≡ refusedWrite self number ⌝ }
+    {
+        Written {
+            refusal: number,
+            length: 0,
+            session: self,
+        }
+    }
 }
 
 // What reading out gives: 0, or the refusal's number, and with 14 the lowest data block whose node is missing.

@@ -9,7 +9,6 @@ use lib.ListN.{length, take, replicate, length-take}
 use Rattle.boxes.specs.Bodies.{boxOf}
 use Rattle.repair.specs.declared.Session.{Session}
 use Rattle.repair.specs.declared.Started.{Started}
-use Rattle.repair.specs.declared.Repairs.{Repairs}
 use Rattle.repair.specs.declared.Written.{Written}
 use Rattle.repair.specs.Boxed.{checkedBox, nodesRead, written, outWritten}
 use Rattle.repair.specs.LiveNodes.{liveListed, outListed}

@@ -1,6 +1,6 @@
 -- `repair::Session::live_nodes` meets its contract: the list is made aside, and copied where the buffer is long enough.
 -- Assumes nothing.
-use mathlib.Core.Path.{_≡_, refl, sym, ap, _∙_}
+use mathlib.Core.Path.{_≡_, refl, sym, _∙_}
 use mathlib.Core.Bool.{false}
 use mathlib.Core.List.{List, _++_}
 use Prim.Native.Nat.{ℕ, _-_, _≤_}
@@ -10,8 +10,7 @@ use borrow.Author.Needs.{needs}
 use lib.ListN.{length, take, length-take}
 use lib.Seq.{take-at}
 use Rattle.families.proofs.Laws.{few}
-use Rattle.lists.specs.Lists.{liveNodes}
-use Rattle.repair.specs.Session.{nodeCountOf, noStart}
+use Rattle.repair.specs.Session.{noStart}
 use Rattle.repair.specs.LiveNodes.{liveNodesOf}
 use Rattle.repair.proofs.StartLaws.{known}
 use Rattle.repair.proofs.LiveListLaws.{live-13, live-6, live-listed}
