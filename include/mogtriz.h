@@ -58,7 +58,7 @@
 #define MOGTRIZ_TETRAHEDRON_LEAST_K 4
 #define MOGTRIZ_TETRAHEDRON_MOST_K 4
 
-/* The most that len, and over all families k and n, can be; the least len is 1. No list of nodes is longer than MOGTRIZ_MOST_NODES. */
+/* The most that len, and over all families k and n, can be; the least len is 1. No list of nodes that is made or accepted is longer than that n. */
 #define MOGTRIZ_MOST_LEN 1536
 #define MOGTRIZ_MOST_K MOGTRIZ_WEIGHT_TWO_MOST_K
 #define MOGTRIZ_MOST_NODES 255
@@ -256,9 +256,9 @@ MOGTRIZ_CALL mogtriz_part mogtriz_body(const uint8_t *box, size_t box_len, size_
 /*
  * A box of the listed live nodes. An empty list stands for no node, and gives a box of MOGTRIZ_BOX_HEAD bytes with E = 0; before version
  * 4 it stood for every live node. Whoever wants every live node hands in the list that mogtriz_live_nodes makes. A box that is read, and
- * written with that list or with its own, which is its E bytes from MOGTRIZ_BOX_HEAD on, has the same bytes. Nothing beyond the length is
- * written. Gives 0 or: 13, 6 where nodes_len is not n * len, 4 over the whole list, 5, 12 where a listed node is missing, 6 where the
- * destination is shorter than the box.
+ * written before any step or run with that list or with its own, which is its E bytes from MOGTRIZ_BOX_HEAD on, has the same bytes.
+ * Nothing beyond the length is written. Gives 0 or: 13, 6 where nodes_len is not n * len, 4 over the whole list, 5, 12 where a listed node
+ * is missing, 6 where the destination is shorter than the box.
  */
 MOGTRIZ_CALL mogtriz_written mogtriz_write(mogtriz_session session, const uint8_t *nodes, size_t nodes_len, const uint8_t *list,
                                            size_t list_len, uint8_t *out, size_t out_len);
