@@ -59,6 +59,13 @@ put-beside s u v at m n h e =
     let l : length (f ++ u) ≡ at + m = simp (length-append, length-take) (omega arith) in
     rw (drop-drop m at s, ← append-assoc f u (drop (at + m) s), put-next (f ++ u) v s (at + m) n l, drop-drop (m + n) at s, append-assoc f u v, append-assoc f (u ++ v), add-assoc at m n)
 
+pub length-mid : (s : List ℕ) (p n : ℕ) → p + n ≤ length s → length (midOf p n s) ≡ n
+length-mid s p n h = simp (length-take, length-drop) (omega arith)
+
+-- so are two parts of one list, put side by side in the same places of another
+pub copy-beside : (s d : List ℕ) (at m n : ℕ) → at + m ≤ length s → at ≤ length d → putMid (at + m) n (putMid at m d (midOf at m s)) (midOf (at + m) n s) ≡ putMid at (m + n) d (midOf at (m + n) s)
+copy-beside s d at m n h l = put-beside d (midOf at m s) (midOf (at + m) n s) at m n l (length-mid s at m h) ∙ ap (putMid at (m + n) d) (sym (mid-beside s at m n))
+
 -- ---- a list filled from the front
 
 -- one part more, which may overlap what is done
@@ -75,9 +82,6 @@ mid-byte : (s : List ℕ) (i : ℕ) → i < length s → midOf i 1 s ≡ getD s 
 mid-byte s i h = rw (drop-cons s i 0 h)
 
 -- ---- a part that becomes the XOR of two others, which lie apart from it
-
-pub length-mid : (s : List ℕ) (p n : ℕ) → p + n ≤ length s → length (midOf p n s) ≡ n
-length-mid s p n h = simp (length-take, length-drop) (omega arith)
 
 mid-mid : (s : List ℕ) (p len at n : ℕ) → p + len ≤ length s → at + n ≤ len → midOf at n (midOf p len s) ≡ midOf (p + at) n s
 mid-mid s p len at n h k =

@@ -7,8 +7,8 @@ ghost use borrow.Rule.Slice.PartMut.{midOf, putMid};
 ghost use Rattle.blocks.specs.Blocks.{xorBytes, blockOf, withBlock};
 ghost use Rattle.blocks.specs.Inner.{InBuffer, BlocksIn};
 
-// dst becomes src, of the same length.
-pub fn copy_block(dst: &mut [u8], src: &[u8])
+// dst becomes src, of the same length, byte by byte: a copy shorter than a chunk.
+fn copy_by_bytes(dst: &mut [u8], src: &[u8])
     requires { ⌜ length (now src) ≡ length (now dst) ⌝ }
     ensures { λ _. ⌜ now (dst .exit) ≡ now (src .entry) ⌝ }
 {
@@ -17,6 +17,81 @@ pub fn copy_block(dst: &mut [u8], src: &[u8])
         dst[i] = src[i];
         i += 1;
     }
+}
+
+// 16 bytes, by value: they stay in a register on their way to their place.
+fn copy_piece(src: &[u8]) -> [u8; 16]
+    requires { ⌜ length (now src) ≡ 16 ⌝ }
+    ensures { λ r. ⌜ r ≡ now (src .entry) ⌝ }
+{
+    let mut piece = [0u8; 16];
+    let mut i: usize = 0;
+    while i < 16 {
+        piece[i] = src[i];
+        i += 1;
+    }
+    piece
+}
+
+fn put_piece(dst: &mut [u8], piece: [u8; 16])
+    requires { ⌜ length (now dst) ≡ 16 ⌝ }
+    ensures { λ _. ⌜ now (dst .exit) ≡ piece ⌝ }
+{
+    let mut i: usize = 0;
+    while i < 16 {
+        dst[i] = piece[i];
+        i += 1;
+    }
+}
+
+// 16 bytes of dst from a place on become those of src from the same place on.
+fn copy_piece_at(dst: &mut [u8], src: &[u8], at: usize)
+    requires { ⌜ (at + 16 ≤ length (now dst)) × (at + 16 ≤ length (now src)) ⌝ }
+    ensures { λ _. ⌜ now (dst .exit) ≡ putMid at 16 (now (dst .entry)) (midOf at 16 (now (src .entry))) ⌝ }
+{
+    let piece = copy_piece(&src[at..at + 16]);
+    put_piece(&mut dst[at..at + 16], piece);
+}
+
+// 64 bytes of dst from a place on become those of src, by four pieces. A piece is one register, stored before the next is loaded:
+// of 64 bytes by value the compiler stores the last ones first, which is slower where dst is not aligned.
+fn copy_chunk_at(dst: &mut [u8], src: &[u8], at: usize)
+    requires { ⌜ (at + 64 ≤ length (now dst)) × (at + 64 ≤ length (now src)) ⌝ }
+    ensures { λ _. ⌜ now (dst .exit) ≡ putMid at 64 (now (dst .entry)) (midOf at 64 (now (src .entry))) ⌝ }
+{
+    copy_piece_at(dst, src, at);
+    copy_piece_at(dst, src, at + 16);
+    copy_piece_at(dst, src, at + 32);
+    copy_piece_at(dst, src, at + 48);
+}
+
+// dst, 64 bytes or more, becomes src, of the same length, by chunks. The last chunk ends with the last byte and may overlap
+// the one before it, so that no tail is left to copy byte by byte.
+fn copy_by_chunks(dst: &mut [u8], src: &[u8])
+    requires { ⌜ (64 ≤ length (now dst)) × (length (now src) ≡ length (now dst)) ⌝ }
+    ensures { λ _. ⌜ now (dst .exit) ≡ now (src .entry) ⌝ }
+{
+    let mut done: usize = 0;
+    while 64 <= src.len() - done {
+        copy_chunk_at(dst, src, done);
+        done += 64;
+    }
+    if done == src.len() {
+        return;
+    }
+    copy_chunk_at(dst, src, src.len() - 64);
+}
+
+// dst becomes src, of the same length.
+pub fn copy_block(dst: &mut [u8], src: &[u8])
+    requires { ⌜ length (now src) ≡ length (now dst) ⌝ }
+    ensures { λ _. ⌜ now (dst .exit) ≡ now (src .entry) ⌝ }
+{
+    if dst.len() < 64 {
+        copy_by_bytes(dst, src);
+        return;
+    }
+    copy_by_chunks(dst, src);
 }
 
 // `count` blocks of the target from block b on become those of the source from block a on. They lie side by side in both, so
