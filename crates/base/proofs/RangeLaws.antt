@@ -89,6 +89,12 @@ module _ (test : ℕ → Bool) where
       go true others those e = omega arith
       go false others those e = omega arith
 
+  -- where all pass, there are as many as numbers
+  pub all-pass : (j m : ℕ) → ((i : ℕ) → j ≤ i → i < j + m → test i ≡ true) → length (thoseFrom test j m) ≡ m
+  unfolding thoseFrom
+  all-pass j zero h = refl
+  all-pass j (suc m) h = rw (h j (omega arith) (omega arith)) (ap suc (all-pass (suc j) m (λ i a b. h i (omega arith) (omega arith))))
+
 -- tests that agree pass alike
 pub same-from : (s t : ℕ → Bool) (j m : ℕ) → ((i : ℕ) → j ≤ i → i < j + m → s i ≡ t i) → thoseFrom s j m ≡ thoseFrom t j m
 unfolding thoseFrom

@@ -18,6 +18,7 @@ use Rattle.checks.specs.Checks.{Check, _gives_, firstMet}
 use Rattle.checks.specs.Claims.{NoneMet}
 use Rattle.checks.specs.Parameters.{parameterChecks}
 use Rattle.checks.proofs.Laws.{none-zero, none-append, exchanged, range-of, parameters-in, parameters-none}
+use Rattle.lists.proofs.PlaceLaws.{rising-distinct, place-of}
 use Rattle.lists.specs.Lists.{rises, listChecks, placeIn}
 use Rattle.boxes.specs.Box.{familyIn, kIn, blockLengthIn, heldCountIn, zerosIn, namesIn, bodiesIn, nodeCountIn, boxLength, boxChecks, bodyChecks, bodyPlace, bodyOf}
 use Rattle.boxes.specs.Bodies.{boxOf, withBodies}
@@ -93,14 +94,6 @@ order-claim bytes = record { check = changed bytes []; body = λ j. changed byte
 
 -- ---- the body of a node
 
--- the place of a number in a rising list
-place-of : (list : List ℕ) (i : ℕ) → rises list ≡ true → i < length list → placeIn list (getD list i 0) ≡ i
-unfolding placeIn
-place-of [] i r l = absurd (omega arith)
-place-of (x ∷ list) zero r l = rw (eq-eqb x x refl)
-place-of (x ∷ list) (suc i) r l =
-    rw (ne-eqb x (getD list i 0) (λ e. omega (arith, rises-above x list i r (omega arith)))) (ap suc (place-of list i (rises-rest x list r) (omega arith)))
-
 module _ (bytes : List ℕ) (e : firstMet (boxChecks bytes) ≡ 0) (i : ℕ) (l : i < heldCountIn bytes) where
   box : AcceptedBox bytes
   box = accepted-box bytes e
@@ -112,7 +105,7 @@ module _ (bytes : List ℕ) (e : firstMet (boxChecks bytes) ≡ 0) (i : ℕ) (l 
   node = getD (namesIn bytes) i 0
 
   name-place : placeIn (namesIn bytes) node ≡ i
-  name-place = place-of (namesIn bytes) i (box .rising) named
+  name-place = place-of (namesIn bytes) i (rising-distinct (namesIn bytes) (box .rising)) named
 
   -- its body has the same place among the bodies
   place : bodyPlace (namesIn bytes) node ≡ i

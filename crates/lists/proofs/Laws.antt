@@ -8,15 +8,15 @@ use Prim.Native.Nat.{ℕ, zero, suc, _+_, _-_, _≤_, _<_}
 use native.Mathlib.Nat.{eq-or-lt-of-le}
 use native.Mathlib.Decide.{ℕ-discrete}
 use native.Mathlib.Omega.{arith}
-use borrow.Author.Tests.{ltb-true, lt-ltb, eqb-true, eqb-false, eq-eqb, ne-eqb}
+use borrow.Author.Tests.{ltb-true, ltb-false, lt-ltb, le-ltb, eqb-true, eqb-false, eq-eqb, ne-eqb}
 use lib.Dec.{ltb, eqb, leb·suc-suc}
-use lib.ListN.{length, getD, set, length-set, getD-replicate}
+use lib.ListN.{length, getD, set, take, length-set, getD-replicate}
 use lib.Seq.{getD-set-same, getD-set-other, ext-getD}
 use Rattle.base.specs.Ranges.{thoseFrom, outside}
 use Rattle.base.proofs.Tests.{and-left, and-right, and-both, or-neither, same-answer}
 use Rattle.checks.specs.Checks.{firstMet}
 use Rattle.checks.specs.Claims.{NoneMet}
-use Rattle.base.proofs.RangeLaws.{inside, outside-no}
+use Rattle.base.proofs.RangeLaws.{inside, outside-high, outside-no}
 use Rattle.checks.proofs.Laws.{accepted}
 use Rattle.lists.specs.Lists.{someOutside, rises, listChecks, placeIn, isIn, noneLive, isLive, setLive, someMissing, liveOutside, liveNodes}
 
@@ -27,13 +27,13 @@ list-accepted n list e = accepted (listChecks n list) refl e
 -- ---- numbers outside 1 to n
 
 -- what is said of a list's first number and of the others
-outside-both : (n x : ℕ) (list : List ℕ) → someOutside n (x ∷ list) ≡ false → ((1 ≤ x) × (x ≤ n)) × (someOutside n list ≡ false)
+pub outside-both : (n x : ℕ) (list : List ℕ) → someOutside n (x ∷ list) ≡ false → ((1 ≤ x) × (x ≤ n)) × (someOutside n list ≡ false)
 unfolding someOutside
 outside-both n x list o =
     let p = or-neither (outside 1 n x) (someOutside n list) o in
     (inside 1 n x (p .0), p .1)
 
-outside-cons : (n x : ℕ) (list : List ℕ) → 1 ≤ x → x ≤ n → someOutside n list ≡ false → someOutside n (x ∷ list) ≡ false
+pub outside-cons : (n x : ℕ) (list : List ℕ) → 1 ≤ x → x ≤ n → someOutside n list ≡ false → someOutside n (x ∷ list) ≡ false
 unfolding someOutside
 outside-cons n x list l h o = simp (outside-no 1 n x l h, o)
 
@@ -49,6 +49,12 @@ outside-none n [] o i h = absurd (omega arith)
 outside-none n (x ∷ list) o zero h = outside-both n x list o .0
 outside-none n (x ∷ list) o (suc i) h = outside-none n list (outside-both n x list o .1) i (omega arith)
 
+pub outside-take : (n m : ℕ) (list : List ℕ) → someOutside n list ≡ false → someOutside n (take m list) ≡ false
+unfolding someOutside
+outside-take n zero list o = refl
+outside-take n (suc m) [] o = refl
+outside-take n (suc m) (x ∷ list) o = let p = outside-both n x list o in outside-cons n x (take m list) (p .0 .0) (p .0 .1) (outside-take n m list (p .1))
+
 pub outside-more : (m n : ℕ) (list : List ℕ) → m ≤ n → someOutside m list ≡ false → someOutside n list ≡ false
 unfolding someOutside
 outside-more m n [] h o = refl
@@ -58,7 +64,7 @@ outside-more m n (x ∷ list) h o =
 
 -- ---- a number's being in a list
 
-has-cons : (x : ℕ) (list : List ℕ) (j : ℕ) → isIn (x ∷ list) j ≡ (eqb x j || isIn list j)
+pub has-cons : (x : ℕ) (list : List ℕ) (j : ℕ) → isIn (x ∷ list) j ≡ (eqb x j || isIn list j)
 unfolding placeIn
 has-cons x list j = go (eqb x j)
   where
@@ -66,7 +72,7 @@ has-cons x list j = go (eqb x j)
     go true = lt-ltb 0 (suc (length list)) (omega arith)
     go false = leb·suc-suc (suc (placeIn list j)) (length list)
 
-has-inside : (n : ℕ) (list : List ℕ) (j : ℕ) → someOutside n list ≡ false → isIn list j ≡ true → (1 ≤ j) × (j ≤ n)
+pub has-inside : (n : ℕ) (list : List ℕ) (j : ℕ) → someOutside n list ≡ false → isIn list j ≡ true → (1 ≤ j) × (j ≤ n)
 unfolding placeIn
 has-inside n [] j o h = absurd (false≢true h)
 has-inside n (x ∷ list) j o h =
@@ -144,42 +150,113 @@ few-from n j (x ∷ list) r o = omega (arith, few-from n (suc x) list (r .1) (ou
 pub rising-few : (n : ℕ) (list : List ℕ) → someOutside n list ≡ false → rises list ≡ true → length list ≤ n
 rising-few n list o r = omega (arith, few-from n 1 list (rises-from n list o r) o)
 
+-- the last number of a list that rises from 1 on says whether one is above n, and none is 0
+last-most : (n x : ℕ) (list : List ℕ) → RisesFrom 1 (x ∷ list) → someOutside n (x ∷ list) ≡ ltb n (getD (x ∷ list) (length list) 0)
+unfolding someOutside
+last-most n x [] r = simp (le-ltb x 1 (r .0), or-false)
+last-most n x (y ∷ list) r = go (ltb n x) refl (last-most n y list (from-lower 1 (suc x) (y ∷ list) (omega arith) (r .1)))
+  where
+    last : ℕ
+    last = getD (y ∷ list) (length list) 0
+
+    go : (b : Bool) → ltb n x ≡ b → someOutside n (y ∷ list) ≡ ltb n last → someOutside n (x ∷ y ∷ list) ≡ ltb n last
+    go true e later = simp (outside-high 1 n x (ltb-true n x e)) (simp (outside-high 1 n y (omega (arith, ltb-true n x e, r .1 .0))) at later)
+    go false e later = simp (outside-no 1 n x (r .0) (ltb-false n x e)) later
+
+pub last-outside : (n : ℕ) (list : List ℕ) → rises list ≡ true → 0 < length list → 1 ≤ getD list 0 0 → someOutside n list ≡ ltb n (getD list (length list - 1) 0)
+last-outside n [] r h l = absurd (omega arith)
+last-outside n (x ∷ list) r h l =
+    let e : length (x ∷ list) - 1 ≡ length list = omega arith in
+    rw e (last-most n x list (l, rises-above x list r))
+
 has-below : (j : ℕ) (list : List ℕ) (i : ℕ) → RisesFrom j list → i < j → isIn list i ≡ false
 unfolding placeIn
 has-below j [] i r h = refl
 has-below j (x ∷ list) i r h = has-cons x list i ∙ simp (ne-eqb x i (λ e. omega arith), has-below (suc x) list i (r .1) (omega arith))
 
--- ---- the live nodes
+-- in a list that rises the first number is not among the others, and these rise too
+pub rises-both : (x : ℕ) (list : List ℕ) → rises (x ∷ list) ≡ true → (isIn list x ≡ false) × (rises list ≡ true)
+rises-both x list r = let a = rises-above x list r in (has-below (suc x) list x a (omega arith), from-rises (suc x) list a)
 
--- by whether the first number is live
-either : (P : List ℕ → Type 0) (b : Bool) (x : ℕ) (later : List ℕ) → (b ≡ true → P (x ∷ later)) → (b ≡ false → P later) → P (cond b (x ∷ later) later)
+-- ---- those of a range that pass a test, and the live nodes
+
+-- by whether the first number passes
+pub either : (P : List ℕ → Type 0) (b : Bool) (x : ℕ) (later : List ℕ) → (b ≡ true → P (x ∷ later)) → (b ≡ false → P later) → P (cond b (x ∷ later) later)
 either P true x later y n = y refl
 either P false x later y n = n refl
 
-module _ (marks : List Bool) where
-  pub live-few : (j m : ℕ) → length (thoseFrom (isLive marks) j m) ≤ m
+-- the numbers of a range that pass a test
+module _ (test : ℕ → Bool) where
+  pub those-few : (j m : ℕ) → length (thoseFrom test j m) ≤ m
   unfolding thoseFrom
-  live-few j zero = omega arith
-  live-few j (suc m) =
-      let h = live-few (suc j) m in
-      either (λ list. length list ≤ suc m) (isLive marks j) j (thoseFrom (isLive marks) (suc j) m) (λ t. omega arith) (λ f. omega arith)
+  those-few j zero = omega arith
+  those-few j (suc m) =
+      let h = those-few (suc j) m in
+      either (λ list. length list ≤ suc m) (test j) j (thoseFrom test (suc j) m) (λ t. omega arith) (λ f. omega arith)
 
-  -- where every live one lies in 1 to n, none is outside
-  live-inside : (n j m : ℕ) → ((i : ℕ) → j ≤ i → i < j + m → isLive marks i ≡ true → (1 ≤ i) × (i ≤ n)) → someOutside n (thoseFrom (isLive marks) j m) ≡ false
+  -- where every one that passes lies in 1 to n, none is outside
+  those-inside : (n j m : ℕ) → ((i : ℕ) → j ≤ i → i < j + m → test i ≡ true → (1 ≤ i) × (i ≤ n)) → someOutside n (thoseFrom test j m) ≡ false
   unfolding thoseFrom someOutside
-  live-inside n j zero h = refl
-  live-inside n j (suc m) h =
-      let o = live-inside n (suc j) m (λ i l g. h i (omega arith) (omega arith)) in
-      either (λ list. someOutside n list ≡ false) (isLive marks j) j (thoseFrom (isLive marks) (suc j) m)
-      (λ t. let p = h j (omega arith) (omega arith) t in outside-cons n j (thoseFrom (isLive marks) (suc j) m) (p .0) (p .1) o) (λ f. o)
+  those-inside n j zero h = refl
+  those-inside n j (suc m) h =
+      let o = those-inside n (suc j) m (λ i l g. h i (omega arith) (omega arith)) in
+      either (λ list. someOutside n list ≡ false) (test j) j (thoseFrom test (suc j) m)
+      (λ t. let p = h j (omega arith) (omega arith) t in outside-cons n j (thoseFrom test (suc j) m) (p .0) (p .1) o) (λ f. o)
 
-  live-rise : (j m : ℕ) → RisesFrom j (thoseFrom (isLive marks) j m)
+  those-rise : (j m : ℕ) → RisesFrom j (thoseFrom test j m)
   unfolding thoseFrom
-  live-rise j zero = tt
-  live-rise j (suc m) =
-      let r = live-rise (suc j) m in
-      either (RisesFrom j) (isLive marks j) j (thoseFrom (isLive marks) (suc j) m) (λ t. (omega arith, r)) (λ f. from-lower j (suc j) (thoseFrom (isLive marks) (suc j) m) (omega arith) r)
+  those-rise j zero = tt
+  those-rise j (suc m) =
+      let r = those-rise (suc j) m in
+      either (RisesFrom j) (test j) j (thoseFrom test (suc j) m) (λ t. (omega arith, r)) (λ f. from-lower j (suc j) (thoseFrom test (suc j) m) (omega arith) r)
 
+  pub has-those : (j m i : ℕ) → j ≤ i → i < j + m → isIn (thoseFrom test j m) i ≡ test i
+  unfolding thoseFrom
+  has-those j zero i l h = absurd (omega arith)
+  has-those j (suc m) i l h = ⊎-elim here (λ (g : j < i). later g (has-those (suc j) m i g (omega arith))) (eq-or-lt-of-le l)
+    where
+      rest : List ℕ
+      rest = thoseFrom test (suc j) m
+
+      here : j ≡ i → isIn (cond (test j) (j ∷ rest) rest) i ≡ test i
+      here e = either (λ list. isIn list i ≡ test i) (test j) j rest (λ t. has-cons j rest i ∙ simp (eq-eqb j i e) (sym (rw e at t))) (λ f. has-below (suc j) rest i (those-rise (suc j) m) (omega arith) ∙ sym (rw e at f))
+
+      later : j < i → isIn rest i ≡ test i → isIn (cond (test j) (j ∷ rest) rest) i ≡ test i
+      later g s = either (λ list. isIn list i ≡ test i) (test j) j rest (λ t. has-cons j rest i ∙ simp (ne-eqb j i (λ e. omega arith)) s) (λ f. s)
+
+  -- those of 1 to n
+  pub nodes-inside : (n : ℕ) → someOutside n (thoseFrom test 1 n) ≡ false
+  nodes-inside n = those-inside n 1 n (λ i l g t. (l, omega arith))
+
+  pub nodes-rise : (n : ℕ) → rises (thoseFrom test 1 n) ≡ true
+  nodes-rise n = from-rises 1 (thoseFrom test 1 n) (those-rise 1 n)
+
+  -- that pass exactly in a rising list are that list
+  those-are : (n : ℕ) (list : List ℕ) (j m : ℕ) → j + m ≡ n + 1 → RisesFrom j list → someOutside n list ≡ false
+      → ((i : ℕ) → j ≤ i → i ≤ n → test i ≡ isIn list i) → thoseFrom test j m ≡ list
+  unfolding thoseFrom placeIn
+  those-are n [] j zero e r o h = refl
+  those-are n (x ∷ list) j zero e r o h = absurd (omega (arith, outside-both n x list o .0))
+  those-are n [] j (suc m) e r o h = simp (h j (omega arith) (omega arith)) (those-are n [] (suc j) m (omega arith) tt o (λ i l g. h i (omega arith) g))
+  those-are n (x ∷ list) j (suc m) e r o h =
+      let p = outside-both n x list o in
+      ⊎-elim
+      (λ (q : j ≡ x).
+      let t : test j ≡ true = h j (omega arith) (omega arith) ∙ has-cons x list j ∙ simp (eq-eqb x j (sym q)) in
+      simp t
+      (ap₂ _∷_ q
+      (those-are n list (suc j) m (omega arith) (from-lower (suc j) (suc x) list (omega arith) (r .1)) (p .1)
+      (λ i l g. h i (omega arith) g ∙ has-cons x list i ∙ simp (ne-eqb x i (λ k. omega arith))))))
+      (λ (q : j < x).
+      let f : test j ≡ false = h j (omega arith) (omega arith) ∙ has-below (suc j) (x ∷ list) j (q, r .1) (omega arith) in
+      simp f
+      (those-are n (x ∷ list) (suc j) m (omega arith) (q, r .1) o (λ i l g. h i (omega arith) g)))
+      (eq-or-lt-of-le (r .0))
+
+  pub nodes-are : (n : ℕ) (list : List ℕ) → someOutside n list ≡ false → rises list ≡ true → ((i : ℕ) → 1 ≤ i → i ≤ n → test i ≡ isIn list i) → thoseFrom test 1 n ≡ list
+  nodes-are n list o r h = those-are n list 1 n (omega arith) (rises-from n list o r) o h
+
+module _ (marks : List Bool) where
   live-live : (j m : ℕ) → someMissing marks (thoseFrom (isLive marks) j m) ≡ false
   unfolding thoseFrom someMissing
   live-live j zero = refl
@@ -187,28 +264,14 @@ module _ (marks : List Bool) where
       let s = live-live (suc j) m in
       either (λ list. someMissing marks list ≡ false) (isLive marks j) j (thoseFrom (isLive marks) (suc j) m) (λ t. simp (t, s)) (λ f. s)
 
-  has-live : (j m i : ℕ) → j ≤ i → i < j + m → isIn (thoseFrom (isLive marks) j m) i ≡ isLive marks i
-  unfolding thoseFrom
-  has-live j zero i l h = absurd (omega arith)
-  has-live j (suc m) i l h = ⊎-elim here (λ (g : j < i). later g (has-live (suc j) m i g (omega arith))) (eq-or-lt-of-le l)
-    where
-      rest : List ℕ
-      rest = thoseFrom (isLive marks) (suc j) m
-
-      here : j ≡ i → isIn (cond (isLive marks j) (j ∷ rest) rest) i ≡ isLive marks i
-      here e = either (λ list. isIn list i ≡ isLive marks i) (isLive marks j) j rest (λ t. has-cons j rest i ∙ simp (eq-eqb j i e) (sym (rw e at t))) (λ f. has-below (suc j) rest i (live-rise (suc j) m) (omega arith) ∙ sym (rw e at f))
-
-      later : j < i → isIn rest i ≡ isLive marks i → isIn (cond (isLive marks j) (j ∷ rest) rest) i ≡ isLive marks i
-      later g s = either (λ list. isIn list i ≡ isLive marks i) (isLive marks j) j rest (λ t. has-cons j rest i ∙ simp (ne-eqb j i (λ e. omega arith)) s) (λ f. s)
-
   pub live-nodes-few : (n : ℕ) → length (liveNodes marks n) ≤ n
-  live-nodes-few n = live-few 1 n
+  live-nodes-few n = those-few (isLive marks) 1 n
 
   pub live-nodes-inside : (n : ℕ) → someOutside n (liveNodes marks n) ≡ false
-  live-nodes-inside n = live-inside n 1 n (λ i l g t. (l, omega arith))
+  live-nodes-inside = nodes-inside (isLive marks)
 
   pub live-nodes-rise : (n : ℕ) → rises (liveNodes marks n) ≡ true
-  live-nodes-rise n = from-rises 1 (liveNodes marks n) (live-rise 1 n)
+  live-nodes-rise = nodes-rise (isLive marks)
 
   pub live-nodes-live : (n : ℕ) → someMissing marks (liveNodes marks n) ≡ false
   live-nodes-live n = live-live 1 n
@@ -218,17 +281,17 @@ module _ (marks : List Bool) where
 -- where there is none, every live number lies in 1 to n
 live-within : (n : ℕ) (marks : List Bool) → liveOutside n marks ≡ false → (i : ℕ) → i < 256 → isLive marks i ≡ true → (1 ≤ i) × (i ≤ n)
 unfolding liveOutside
-live-within n marks o i h t = has-inside n (thoseFrom (isLive marks) 0 256) i o (has-live marks 0 256 i (omega arith) (omega arith) ∙ t)
+live-within n marks o i h t = has-inside n (thoseFrom (isLive marks) 0 256) i o (has-those (isLive marks) 0 256 i (omega arith) (omega arith) ∙ t)
 
 pub list-outside-none : (n : ℕ) (list : List ℕ) → n ≤ 255 → someOutside n list ≡ false → liveOutside n (setLive noneLive list) ≡ false
 unfolding liveOutside
 list-outside-none n list h o =
-    live-inside (setLive noneLive list) n 0 256 (λ i l g t. has-inside n list i o (sym (live-of-list list i (omega arith) (outside-more n 255 list h o)) ∙ t))
+    those-inside (isLive (setLive noneLive list)) n 0 256 (λ i l g t. has-inside n list i o (sym (live-of-list list i (omega arith) (outside-more n 255 list h o)) ∙ t))
 
 -- a node set live is not outside
 pub set-outside-none : (n : ℕ) (marks : List Bool) (j : ℕ) → 1 ≤ j → j ≤ n → liveOutside n marks ≡ false → liveOutside n (set marks j true) ≡ false
 unfolding liveOutside
-set-outside-none n marks j h g o = live-inside (set marks j true) n 0 256 (λ i l m t. go i (omega arith) t (ℕ-discrete i j))
+set-outside-none n marks j h g o = those-inside (isLive (set marks j true)) n 0 256 (λ i l m t. go i (omega arith) t (ℕ-discrete i j))
   where
     go : (i : ℕ) → i < 256 → isLive (set marks j true) i ≡ true → Dec (i ≡ j) → (1 ≤ i) × (i ≤ n)
     go i l t (yes e) = (omega arith, omega arith)
@@ -236,31 +299,9 @@ set-outside-none n marks j h g o = live-inside (set marks j true) n 0 256 (λ i 
 
 -- ---- a rising list and its marks
 
--- marks that are live exactly in a rising list have it as their live nodes
-live-are : (marks : List Bool) (n : ℕ) (list : List ℕ) (j m : ℕ) → j + m ≡ n + 1 → RisesFrom j list → someOutside n list ≡ false
-    → ((i : ℕ) → j ≤ i → i ≤ n → isLive marks i ≡ isIn list i) → thoseFrom (isLive marks) j m ≡ list
-unfolding thoseFrom placeIn
-live-are marks n [] j zero e r o h = refl
-live-are marks n (x ∷ list) j zero e r o h = absurd (omega (arith, outside-both n x list o .0))
-live-are marks n [] j (suc m) e r o h = simp (h j (omega arith) (omega arith)) (live-are marks n [] (suc j) m (omega arith) tt o (λ i l g. h i (omega arith) g))
-live-are marks n (x ∷ list) j (suc m) e r o h =
-    let p = outside-both n x list o in
-    ⊎-elim
-    (λ (q : j ≡ x).
-    let t : isLive marks j ≡ true = h j (omega arith) (omega arith) ∙ has-cons x list j ∙ simp (eq-eqb x j (sym q)) in
-    simp t
-    (ap₂ _∷_ q
-    (live-are marks n list (suc j) m (omega arith) (from-lower (suc j) (suc x) list (omega arith) (r .1)) (p .1)
-    (λ i l g. h i (omega arith) g ∙ has-cons x list i ∙ simp (ne-eqb x i (λ k. omega arith))))))
-    (λ (q : j < x).
-    let f : isLive marks j ≡ false = h j (omega arith) (omega arith) ∙ has-below (suc j) (x ∷ list) j (q, r .1) (omega arith) in
-    simp f
-    (live-are marks n (x ∷ list) (suc j) m (omega arith) (q, r .1) o (λ i l g. h i (omega arith) g)))
-    (eq-or-lt-of-le (r .0))
-
 pub live-nodes-of-list : (n : ℕ) (list : List ℕ) → n ≤ 255 → someOutside n list ≡ false → rises list ≡ true → liveNodes (setLive noneLive list) n ≡ list
 live-nodes-of-list n list h o r =
-    live-are (setLive noneLive list) n list 1 n (omega arith) (rises-from n list o r) o (λ i l g. live-of-list list i (omega arith) (outside-more n 255 list h o))
+    nodes-are (isLive (setLive noneLive list)) n list o r (λ i l g. live-of-list list i (omega arith) (outside-more n 255 list h o))
 
 pub marks-of-live-nodes : (n : ℕ) (marks : List Bool) → length marks ≡ 256 → n ≤ 255 → liveOutside n marks ≡ false → setLive noneLive (liveNodes marks n) ≡ marks
 marks-of-live-nodes n marks l h o =
@@ -270,7 +311,7 @@ marks-of-live-nodes n marks l h o =
     live-of-list (liveNodes marks n) i k (outside-more n 255 (liveNodes marks n) h (live-nodes-inside marks n)) ∙ same i k)
   where
     node : (i : ℕ) → (1 ≤ i) × (i ≤ n) → isIn (liveNodes marks n) i ≡ isLive marks i
-    node i w = has-live marks 1 n i (omega arith) (omega arith)
+    node i w = has-those (isLive marks) 1 n i (omega arith) (omega arith)
 
     same : (i : ℕ) → i < 256 → isIn (liveNodes marks n) i ≡ isLive marks i
     same i g =

@@ -1,3 +1,4 @@
 pub mod Walks
 pub mod Laws
 pub mod MarkLaws
+pub mod PlaceLaws

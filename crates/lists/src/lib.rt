@@ -1,6 +1,7 @@
 // Node lists, a byte a node, and marks, a bool for each number from 0 to 255.
 use base::wide;
 ghost use mathlib.Core.Path.{_≡_};
+ghost use mathlib.Core.Bool.{true};
 ghost use mathlib.Core.List.{_++_};
 ghost use Prim.Native.Nat.{_-_, _≤_};
 ghost use lib.ListN.{length, replicate};
@@ -25,28 +26,55 @@ pub fn some_outside(n: usize, list: &[u8]) -> bool
     false
 }
 
-// Whether the list strictly rises.
+// Whether the list strictly rises. It is gone through to its end, so that the compiler can compare many numbers at a time.
 pub fn is_rising(list: &[u8]) -> bool
     ensures { λ r. ⌜ r ≡ rises (now (list .entry)) ⌝ }
 {
+    let mut rising = true;
     let mut i: usize = 0;
     while i + 1 < list.len() {
-        if list[i + 1] <= list[i] {
-            return false;
-        }
         i += 1;
+        if list[i] <= list[i - 1] {
+            rising = false;
+        }
     }
-    true
+    rising
+}
+
+// Whether a node number of a rising list is 0 or above n: its first number is the least of them, and its last the most.
+fn ends_outside(n: usize, list: &[u8]) -> bool
+    requires { ⌜ rises (now list) ≡ true ⌝ }
+    ensures { λ r. ⌜ r ≡ someOutside n (now (list .entry)) ⌝ }
+{
+    if list.len() < 1 {
+        return false;
+    }
+    if list[0] < 1 {
+        return true;
+    }
+    n < wide(list[list.len() - 1])
+}
+
+// Whether a node number of the list is 0 or above n: only a list that does not rise is gone through for it.
+fn outside_by_order(n: usize, list: &[u8], rising: bool) -> bool
+    requires { ⌜ rises (now list) ≡ rising ⌝ }
+    ensures { λ r. ⌜ r ≡ someOutside n (now (list .entry)) ⌝ }
+{
+    if rising {
+        return ends_outside(n, list);
+    }
+    some_outside(n, list)
 }
 
 // 4 or 5 for a node list, in this order; else 0.
 pub fn list_refusal(n: usize, list: &[u8]) -> u8
     ensures { λ r. ⌜ r ≡ firstMet (listChecks n (now (list .entry))) ⌝ }
 {
-    if some_outside(n, list) {
+    let rising = is_rising(list);
+    if outside_by_order(n, list, rising) {
         return 4;
     }
-    if !is_rising(list) {
+    if !rising {
         return 5;
     }
     0

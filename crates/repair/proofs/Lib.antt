@@ -5,7 +5,6 @@ pub mod ReadOutLaws
 pub mod LiveListLaws
 pub mod BoxedLaws
 pub mod RoundTripLaws
-pub mod ListedLaws
 pub mod StepLaws
 pub mod RepairsLaws
 pub mod Proved

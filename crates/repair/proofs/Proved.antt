@@ -13,7 +13,8 @@ use Rattle.families.proofs.Laws.{few}
 use Rattle.checks.specs.Checks.{firstMet}
 use Rattle.checks.proofs.Laws.{none-zero, parameters-in}
 use Rattle.checks.proofs.AnswerLaws.{answer-refused}
-use Rattle.lists.specs.Lists.{someOutside, rises, placeIn, noneLive, isLive, setLive, someMissing, liveOutside}
+use Rattle.lists.specs.Lists.{someOutside, rises, placeIn, isIn, noneLive, isLive, setLive, someMissing, liveOutside}
+use Rattle.lists.proofs.PlaceLaws.{place-there, at-is}
 use Rattle.lists.proofs.Laws.{live-of-list, list-outside-none, outside-more}
 use Rattle.boxes.specs.Box.{familyIn, kIn, blockLengthIn, namesIn, nodeCountIn, boxChecks}
 use Rattle.boxes.specs.Bodies.{boxOf}
@@ -28,7 +29,6 @@ use Rattle.repair.specs.Claims.{StartClaim, FromStart, NoStartClaim, Sta
 use Rattle.repair.proofs.Accepted.{start-accepted, check-accepted, read-accepted, write-accepted, list-accepted}
 use Rattle.repair.proofs.StartLaws.{start-0, no-start-marks, accepted-start}
 use Rattle.repair.proofs.LiveListLaws.{accepted-list, list-is, list-answer, list-rest, live-starts, start-lists}
-use Rattle.repair.proofs.ListedLaws.{place-there, place-before}
 use Rattle.repair.proofs.BoxedLaws.{read-by-box}
 use Rattle.repair.proofs.RoundTripLaws.{accepted-write, box-written, write-answer, write-room, write-rest, box-passes, box-names, box-checked, box-reads, bodies-read, accepted-read, names-are, session-read, read-is, read-keeps, again}
 
@@ -75,7 +75,7 @@ box-start-claim bytes h =
         (λ t.
             let p : placeIn (namesIn bytes) j < length (namesIn bytes) = ltb-true _ _ (sym (live j l) ∙ t) in
             record { place = placeIn (namesIn bytes) j; within = omega (arith, p, a .names-size); there = place-there (namesIn bytes) j p }),
-        (λ n. live j l ∙ lt-ltb _ _ (place-before (namesIn bytes) j (n .place) (omega (arith, n .within, a .names-size)) (n .there))),
+        (λ n. live j l ∙ ap (isIn (namesIn bytes)) (sym (n .there)) ∙ at-is (namesIn bytes) (n .place) (omega (arith, n .within, a .names-size))),
       );
     }
 

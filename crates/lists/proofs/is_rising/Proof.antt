@@ -1,9 +1,10 @@
--- `lists::is_rising` meets its contract: before each turn the list rises exactly when what is left of it does.
+-- `lists::is_rising` meets its contract: before each turn the list rises exactly when no fall was seen and what is left of it rises.
 -- Assumes nothing.
-use mathlib.Core.Path.{_≡_, refl, sym, _∙_}
-use Prim.Native.Nat.{_-_, _≤_}
+use mathlib.Core.Path.{_≡_, refl, sym, ap, _∙_}
+use mathlib.Core.Bool.{Bool, true, false, _&&_, and-true, and-false}
+use Prim.Native.Nat.{ℕ, _+_, _-_, _≤_}
 use denote.Ref.{now}
-use lib.ListN.{length, drop}
+use lib.ListN.{length, getD, drop}
 use native.Mathlib.Omega.{arith}
 use borrow.Author.Needs.{needs}
 use borrow.Author.Tests.{lt-ltb, le-ltb}
@@ -13,27 +14,32 @@ use Rattle.lists.proofs.is_rising.Statement.{statement}
 use Rattle.lists.proofs.is_rising.Tie as tie
 
 abbrev Inv-loop : tie.InvT-loop
-Inv-loop list i₀ i = (i ≤ length list) × (rises list ≡ rises (drop i list))
+Inv-loop list rising₀ i₀ rising i = (i ≤ length list) × (rises list ≡ (rising && rises (drop i list)))
 
 abbrev μ-loop : tie.MeasureT-loop
-μ-loop list i₀ i = length list - i
-
-returns : tie.Need-returns Inv-loop μ-loop
-returns c =
-    let t : tie.At-loop Inv-loop μ-loop = search in
-    let e : tie.Start Inv-loop μ-loop = search in
-    let s = t .loop .inv .1 ∙ rises-step (now (e .args .list)) (t .loop .i) (omega arith) in
-    sym (s ∙ simp (le-ltb _ _ (c .if1 .taken)))
+μ-loop list rising₀ i₀ rising i = length list - i
 
 loop-again : tie.Need-loop-again Inv-loop μ-loop
 loop-again c =
     let t : tie.At-loop Inv-loop μ-loop = search in
     let e : tie.Start Inv-loop μ-loop = search in
-    let s = t .loop .inv .1 ∙ rises-step (now (e .args .list)) (t .loop .i) (omega arith) in
-    (omega arith, s ∙ simp (lt-ltb _ _ (c .if1 .left)))
+    let back : t .loop .i + 1 - 1 ≡ t .loop .i = omega arith in
+    let s = t .loop .inv .1 ∙ ap (λ (b : Bool). t .loop .rising && b) (rises-step (now (e .args .list)) (t .loop .i) (omega arith)) in
+    (omega arith, s ∙ simp (le-ltb (getD (now (e .args .list)) (t .loop .i) 0) (getD (now (e .args .list)) (t .loop .i + 1) 0) (rw back at (c .if1 .taken)), and-false))
 
-returns-2 : tie.Need-returns-2 Inv-loop μ-loop
-returns-2 c = let t : tie.At-loop Inv-loop μ-loop = search in sym (t .loop .inv .1 ∙ rises-end _ _ (c .loop-test .left))
+loop-again-2 : tie.Need-loop-again-2 Inv-loop μ-loop
+loop-again-2 c =
+    let t : tie.At-loop Inv-loop μ-loop = search in
+    let e : tie.Start Inv-loop μ-loop = search in
+    let back : t .loop .i + 1 - 1 ≡ t .loop .i = omega arith in
+    let s = t .loop .inv .1 ∙ ap (λ (b : Bool). t .loop .rising && b) (rises-step (now (e .args .list)) (t .loop .i) (omega arith)) in
+    (omega arith, s ∙ simp (lt-ltb (getD (now (e .args .list)) (t .loop .i) 0) (getD (now (e .args .list)) (t .loop .i + 1) 0) (rw back at (c .if1 .left))))
+
+returns : tie.Need-returns Inv-loop μ-loop
+returns c =
+    let t : tie.At-loop Inv-loop μ-loop = search in
+    let e : tie.Start Inv-loop μ-loop = search in
+    sym (t .loop .inv .1 ∙ simp (rises-end (now (e .args .list)) (t .loop .i) (c .loop-test .left), and-true))
 
 pub is-rising-spec : {M : Type 1} → statement M
 is-rising-spec =
@@ -41,13 +47,14 @@ is-rising-spec =
     (tie.spec
     Inv-loop
     μ-loop
-    (λ c. (search needs, refl))
+    (λ c. (omega arith, refl))
     (λ c. search needs)
     (λ c. search needs)
     (λ c. search needs)
     (λ c. search needs)
-    returns
-    (λ c. search needs)
+    (λ c. omega arith)
     (λ c. search needs)
     loop-again
-    returns-2)
+    (λ c. search needs)
+    loop-again-2
+    returns)
