@@ -1,4 +1,5 @@
 pub mod TextLaws
 pub mod PutLaws
+pub mod LineLaws
 pub mod StepLaws
 pub mod ListingLaws

@@ -63,7 +63,7 @@ length-field word n = length-append word (decimal n)
 wide-field : (word : List ℕ) (n : ℕ) → n < 2 ^ 64 → length (field word n) ≤ length word + 20
 wide-field word n h = omega (arith, length-field word n, decimal-most n 20 (omega arith) (omega arith) (omega arith))
 
-byte-field : (word : List ℕ) (n : ℕ) → n < 256 → length (field word n) ≤ length word + 3
+pub byte-field : (word : List ℕ) (n : ℕ) → n < 256 → length (field word n) ≤ length word + 3
 byte-field word n h = omega (arith, length-field word n, decimal-most n 3 (omega arith) (omega arith) (omega arith))
 
 -- ---- how long the lines are

@@ -1,7 +1,7 @@
 // The lister's text: a box's parameters and live count, the steps of its plan, and what the plan comes to. Besides what both
 // programs print of an input that is turned away.
 mod lines;
-mod text;
+pub mod text;
 
 use crate::lines::put_first_line;
 use crate::lines::put_last_line;

@@ -1,0 +1,5 @@
+pub mod OrderLaws
+pub mod TableLaws
+pub mod NumberLaws
+pub mod Walks
+pub mod Proved

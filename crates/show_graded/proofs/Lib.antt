@@ -1,0 +1,3 @@
+pub mod RuleLaws
+pub mod PlacedLaws
+pub mod PrintedLaws
