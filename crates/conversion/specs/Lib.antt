@@ -1,0 +1,3 @@
+pub mod Converted
+pub mod Inner
+pub mod Claims
