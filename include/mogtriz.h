@@ -87,7 +87,7 @@
  * names are constants, and so is MOGTRIZ_SERVED, 0, which is no refusal.
  */
 #define MOGTRIZ_REFUSALS(ROW)                                                                                                 \
-    ROW(1, MOGTRIZ_REFUSED_FAMILY_UNKNOWN, "the family is not 1, 2 or 3")                                                     \
+    ROW(1, MOGTRIZ_REFUSED_FAMILY_UNKNOWN, "the family is not one that the call takes")                                       \
     ROW(2, MOGTRIZ_REFUSED_K_OUT_OF_RANGE, "k is outside its family's range")                                                 \
     ROW(3, MOGTRIZ_REFUSED_LEN_OUT_OF_RANGE, "the block length is 0 or above " MOGTRIZ_DIGITS(MOGTRIZ_MOST_LEN))              \
     ROW(4, MOGTRIZ_REFUSED_NO_SUCH_NODE, "a node number is 0 or above the last node's")                                       \
@@ -225,6 +225,12 @@ typedef struct {
     size_t length;
 } mogtriz_part;
 
+/* What converting a box gives: 0 and its length, or the refusal's number and 0. */
+typedef struct {
+    uint8_t refusal;
+    size_t length;
+} mogtriz_converted;
+
 /*
  * A session with the nodes of a list live, a byte a node, strictly rising; an empty list sets none. Gives 0 or: 1, 2, 3, 4 over the
  * whole list, 5.
@@ -252,6 +258,27 @@ MOGTRIZ_CALL mogtriz_started mogtriz_read(const uint8_t *box, size_t box_len, ui
 
 /* The body of one node, as a part of the box: its checks, then 4, and 12 where the node is not in the box. */
 MOGTRIZ_CALL mogtriz_part mogtriz_body(const uint8_t *box, size_t box_len, size_t node);
+
+/*
+ * Graded order, in which others number simplex nodes: by how many data blocks they hold, and those that hold as many by the rising
+ * lists of the blocks' numbers, compared from the front. A node's number there is its position, from 1 to n.
+ * With k 3 the nodes at positions 1 to 7 are 1 2 4 3 5 6 7; a smaller k leaves out, of the order for k 8, the columns of 2^k and above.
+ * A box in graded order is as said above, with positions for its node numbers, and is told from one with our numbers by nothing in it:
+ * the caller has to know.
+ */
+
+/*
+ * A box in graded order converted to our numbers: each position becomes the node there. The numbers rise in the new box too, each body
+ * moves with its number, and the rest stays. It is as long as the box handed in, `length` says so, and nothing beyond it is written.
+ * Gives 0 or: the checks of a box, 1 where its family is 2 or 3, 6 where the destination is shorter than the box.
+ */
+MOGTRIZ_CALL mogtriz_converted mogtriz_from_graded(const uint8_t *box, size_t box_len, uint8_t *out, size_t out_len);
+
+/*
+ * The reverse: a box with our numbers converted to graded order, each node becoming its position. It gives what mogtriz_from_graded
+ * gives, and a box that is converted there and back, either way round, has the same bytes.
+ */
+MOGTRIZ_CALL mogtriz_converted mogtriz_to_graded(const uint8_t *box, size_t box_len, uint8_t *out, size_t out_len);
 
 /*
  * A box of the listed live nodes. An empty list stands for no node, and gives a box of MOGTRIZ_BOX_HEAD bytes with E = 0; before version
@@ -376,6 +403,20 @@ MOGTRIZ_ANSWERS static inline mogtriz_part mogtriz_inline_body(const uint8_t *bo
     return mogtriz_body(mogtriz_inline_source(box, box_len), box_len, node);
 }
 
+MOGTRIZ_ANSWERS static inline mogtriz_converted mogtriz_inline_from_graded(const uint8_t *box, size_t box_len, uint8_t *out,
+                                                                           size_t out_len)
+{
+    MOGTRIZ_ASSERT(mogtriz_inline_apart(out, out_len, box, box_len));
+    return mogtriz_from_graded(mogtriz_inline_source(box, box_len), box_len, mogtriz_inline_target(out, out_len), out_len);
+}
+
+MOGTRIZ_ANSWERS static inline mogtriz_converted mogtriz_inline_to_graded(const uint8_t *box, size_t box_len, uint8_t *out,
+                                                                         size_t out_len)
+{
+    MOGTRIZ_ASSERT(mogtriz_inline_apart(out, out_len, box, box_len));
+    return mogtriz_to_graded(mogtriz_inline_source(box, box_len), box_len, mogtriz_inline_target(out, out_len), out_len);
+}
+
 MOGTRIZ_ANSWERS static inline mogtriz_written mogtriz_inline_write(mogtriz_session session, const uint8_t *nodes,
                                                                    size_t nodes_len, const uint8_t *list, size_t list_len,
                                                                    uint8_t *out, size_t out_len)
@@ -426,6 +467,8 @@ MOGTRIZ_ANSWERS static inline mogtriz_repairs mogtriz_inline_run(mogtriz_session
 #define mogtriz_check(...) mogtriz_inline_check(__VA_ARGS__)
 #define mogtriz_read(...) mogtriz_inline_read(__VA_ARGS__)
 #define mogtriz_body(...) mogtriz_inline_body(__VA_ARGS__)
+#define mogtriz_from_graded(...) mogtriz_inline_from_graded(__VA_ARGS__)
+#define mogtriz_to_graded(...) mogtriz_inline_to_graded(__VA_ARGS__)
 #define mogtriz_write(...) mogtriz_inline_write(__VA_ARGS__)
 #define mogtriz_live_nodes(...) mogtriz_inline_live_nodes(__VA_ARGS__)
 #define mogtriz_read_out(...) mogtriz_inline_read_out(__VA_ARGS__)

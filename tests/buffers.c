@@ -27,6 +27,10 @@ static void boxes_take_empty_buffers(void)
     EXPECT(mogtriz_read(null, 0, nodes, sizeof nodes).refusal == MOGTRIZ_REFUSED_BOX_LENGTH);
     EXPECT(mogtriz_read(three_box, sizeof three_box, null, 0).refusal == MOGTRIZ_REFUSED_BUFFER_LENGTH);
     EXPECT(mogtriz_body(null, 0, 4).refusal == MOGTRIZ_REFUSED_BOX_LENGTH);
+    EXPECT(mogtriz_from_graded(null, 0, out, sizeof out).refusal == MOGTRIZ_REFUSED_BOX_LENGTH);
+    EXPECT(mogtriz_from_graded(three_box, sizeof three_box, null, 0).refusal == MOGTRIZ_REFUSED_BUFFER_LENGTH);
+    EXPECT(mogtriz_to_graded(null, 0, out, sizeof out).refusal == MOGTRIZ_REFUSED_BOX_LENGTH);
+    EXPECT(mogtriz_to_graded(three_box, sizeof three_box, null, 0).refusal == MOGTRIZ_REFUSED_BUFFER_LENGTH);
     EXPECT(mogtriz_write(three_live(), null, 0, kept, sizeof kept, out, sizeof out).refusal == MOGTRIZ_REFUSED_BUFFER_LENGTH);
     EXPECT(mogtriz_write(three_live(), three_nodes, sizeof three_nodes, kept, sizeof kept, null, 0).refusal ==
            MOGTRIZ_REFUSED_BUFFER_LENGTH);
@@ -84,20 +88,28 @@ static uint8_t null_fault(int fault)
     case 7:
         return mogtriz_body(null, 8, 4).refusal;
     case 8:
-        return mogtriz_write(three_live(), null, N, kept, sizeof kept, out, sizeof out).refusal;
+        return mogtriz_from_graded(null, 8, out, sizeof out).refusal;
     case 9:
-        return mogtriz_write(three_live(), three_nodes, sizeof three_nodes, null, 1, out, sizeof out).refusal;
+        return mogtriz_from_graded(three_box, sizeof three_box, null, sizeof out).refusal;
     case 10:
-        return mogtriz_write(three_live(), three_nodes, sizeof three_nodes, kept, sizeof kept, null, sizeof out).refusal;
+        return mogtriz_to_graded(null, 8, out, sizeof out).refusal;
     case 11:
-        return mogtriz_live_nodes(three_live(), null, 1).refusal;
+        return mogtriz_to_graded(three_box, sizeof three_box, null, sizeof out).refusal;
     case 12:
-        return mogtriz_read_out(three_live(), null, N, again, sizeof again).refusal;
+        return mogtriz_write(three_live(), null, N, kept, sizeof kept, out, sizeof out).refusal;
     case 13:
-        return mogtriz_read_out(three_live(), three_nodes, sizeof three_nodes, null, K).refusal;
+        return mogtriz_write(three_live(), three_nodes, sizeof three_nodes, null, 1, out, sizeof out).refusal;
     case 14:
-        return mogtriz_step(three_live(), null, N, 1, 4, 5).refusal;
+        return mogtriz_write(three_live(), three_nodes, sizeof three_nodes, kept, sizeof kept, null, sizeof out).refusal;
     case 15:
+        return mogtriz_live_nodes(three_live(), null, 1).refusal;
+    case 16:
+        return mogtriz_read_out(three_live(), null, N, again, sizeof again).refusal;
+    case 17:
+        return mogtriz_read_out(three_live(), three_nodes, sizeof three_nodes, null, K).refusal;
+    case 18:
+        return mogtriz_step(three_live(), null, N, 1, 4, 5).refusal;
+    case 19:
         return mogtriz_plan(three_live(), null, 1).refusal;
     default:
         return mogtriz_run(three_live(), null, N).refusal;
@@ -109,22 +121,26 @@ static uint8_t overlap_fault(int fault)
 {
     static uint8_t shared[64];
     switch (fault) {
-    case 17:
-        return mogtriz_encode(MOGTRIZ_SIMPLEX, K, LEN, shared, K, shared + K - 1, N);
-    case 18:
-        return mogtriz_encode(MOGTRIZ_SIMPLEX, K, LEN, shared + N - 1, K, shared, N);
-    case 19:
-        return mogtriz_read(shared, sizeof shared, shared, N).refusal;
-    case 20:
-        return mogtriz_write(three_live(), shared, N, kept, sizeof kept, shared + 1, sizeof out).refusal;
     case 21:
+        return mogtriz_encode(MOGTRIZ_SIMPLEX, K, LEN, shared, K, shared + K - 1, N);
+    case 22:
+        return mogtriz_encode(MOGTRIZ_SIMPLEX, K, LEN, shared + N - 1, K, shared, N);
+    case 23:
+        return mogtriz_read(shared, sizeof shared, shared, N).refusal;
+    case 24:
+        return mogtriz_from_graded(shared, sizeof out, shared + sizeof out - 1, sizeof out).refusal;
+    case 25:
+        return mogtriz_to_graded(shared + sizeof out - 1, sizeof out, shared, sizeof out).refusal;
+    case 26:
+        return mogtriz_write(three_live(), shared, N, kept, sizeof kept, shared + 1, sizeof out).refusal;
+    case 27:
         return mogtriz_write(three_live(), three_nodes, sizeof three_nodes, shared + 1, 1, shared, sizeof out).refusal;
     default:
         return mogtriz_read_out(three_live(), shared, N, shared + 1, K).refusal;
     }
 }
 
-enum { NULL_FAULTS = 16, FAULTS = 22 };
+enum { NULL_FAULTS = 20, FAULTS = 28 };
 
 int main(int count, char **arguments)
 {

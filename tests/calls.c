@@ -84,6 +84,32 @@ static void call_boxes(void)
     EXPECT(written.refusal == MOGTRIZ_REFUSED_NO_SUCH_SESSION && written.length == 0 && same_session(written.session, no_session()));
 }
 
+/* A box in graded order: with k 4, positions 4, 5 and 8 are nodes 8, 3 and 6. */
+static void call_conversions(void)
+{
+    const uint8_t theirs[] = {MOGTRIZ_SIMPLEX, 4, LEN, 0, 3, 0, 0, 0, 4, 5, 8, 'a', 'b', 'c'};
+    const uint8_t ours[sizeof theirs] = {MOGTRIZ_SIMPLEX, 4, LEN, 0, 3, 0, 0, 0, 3, 6, 8, 'b', 'c', 'a'};
+    const uint8_t weight_two[MOGTRIZ_BOX_HEAD] = {MOGTRIZ_WEIGHT_TWO, 4, LEN, 0, 0, 0, 0, 0};
+    uint8_t out[sizeof theirs + 1];
+    memset(out, 0xaa, sizeof out);
+    mogtriz_converted converted = mogtriz_from_graded(theirs, sizeof theirs, out, sizeof theirs - 1);
+    EXPECT(converted.refusal == MOGTRIZ_REFUSED_BUFFER_LENGTH && converted.length == 0 && out[0] == 0xaa);
+    converted = mogtriz_from_graded(weight_two, sizeof weight_two, out, sizeof out);
+    EXPECT(converted.refusal == MOGTRIZ_REFUSED_FAMILY_UNKNOWN && converted.length == 0 && out[0] == 0xaa);
+    converted = mogtriz_from_graded(theirs, sizeof theirs, out, sizeof out);
+    EXPECT(converted.refusal == MOGTRIZ_SERVED && converted.length == sizeof ours);
+    EXPECT(memcmp(out, ours, sizeof ours) == 0 && out[sizeof ours] == 0xaa);
+
+    memset(out, 0xaa, sizeof out);
+    converted = mogtriz_to_graded(ours, sizeof ours, out, sizeof ours - 1);
+    EXPECT(converted.refusal == MOGTRIZ_REFUSED_BUFFER_LENGTH && converted.length == 0 && out[0] == 0xaa);
+    converted = mogtriz_to_graded(ours, sizeof ours - 1, out, sizeof out);
+    EXPECT(converted.refusal == MOGTRIZ_REFUSED_BOX_LENGTH && converted.length == 0 && out[0] == 0xaa);
+    converted = mogtriz_to_graded(ours, sizeof ours, out, sizeof out);
+    EXPECT(converted.refusal == MOGTRIZ_SERVED && converted.length == sizeof theirs);
+    EXPECT(memcmp(out, theirs, sizeof theirs) == 0 && out[sizeof theirs] == 0xaa);
+}
+
 /* An empty list stands for no node: its box is the head alone, and reads to a session with none live. */
 static void call_write_with_no_node(void)
 {
@@ -202,6 +228,7 @@ int main(void)
     call_encode();
     call_start();
     call_boxes();
+    call_conversions();
     call_write_with_no_node();
     call_live_nodes();
     call_read_out();

@@ -42,10 +42,12 @@ calls() {
     compiled calls "${@:2}"
     nm --undefined-only "$out/calls.o" | names | diff "$out/exported" -
     compiled header "${@:2}"
-    if ! grep -qFf "$out/header.said" include/mogtriz.h; then
-        echo "not in the header: $(cat "$out/header.said")"
-        exit 1
-    fi
+    while read -r sentence; do
+        if ! grep -qF -- "$sentence" include/mogtriz.h; then
+            echo "not in the header: $sentence"
+            exit 1
+        fi
+    done <"$out/header.said"
     "${@:2}" -Iinclude -c tests/ignored.c -o "$out/ignored.o" 2>&1 | grep 'ignoring return value' | grep -oE 'mogtriz_inline_[a-z_]+' |
         sed 's/inline_//' | sort -u | diff "$out/with_buffers" -
     echo "$1: $(wc -l <"$out/exported") functions called"

@@ -1,6 +1,6 @@
 /*
  * What the header says by itself, held to the library: families and limits, lengths, refusals' texts, and which node has which column.
- * It prints the header's sentence on the tetrahedron, with the columns that the library gives.
+ * It prints the header's sentences on the tetrahedron and on graded order, with the columns and nodes that the library gives.
  */
 #include "three_nodes.h"
 
@@ -20,7 +20,8 @@ static const family_range families[] = {
 enum { FAMILIES = sizeof families / sizeof families[0] };
 
 /* Room for the longest buffers, and a byte more. */
-static uint8_t long_object[MOGTRIZ_MOST_OBJECT_LEN + 1], long_nodes[MOGTRIZ_MOST_NODES_LEN + 1], long_box[MOGTRIZ_MOST_BOX_LEN];
+static uint8_t long_object[MOGTRIZ_MOST_OBJECT_LEN + 1], long_nodes[MOGTRIZ_MOST_NODES_LEN + 1];
+static uint8_t long_box[MOGTRIZ_MOST_BOX_LEN], converted_box[MOGTRIZ_MOST_BOX_LEN];
 
 static uint8_t start_refusal(size_t family, size_t k, size_t len)
 {
@@ -93,6 +94,17 @@ static void hold_encode_lengths(size_t family, size_t k, size_t len)
     }
 }
 
+/* The box's own length, and no byte less, is room for it converted; only boxes of simplex nodes are. */
+static void hold_converted_length(size_t family, size_t box_len)
+{
+    const int simplex = family == MOGTRIZ_SIMPLEX;
+    mogtriz_converted converted = mogtriz_from_graded(long_box, box_len, converted_box, box_len);
+    EXPECT(converted.refusal == (simplex ? MOGTRIZ_SERVED : MOGTRIZ_REFUSED_FAMILY_UNKNOWN));
+    EXPECT(converted.length == (simplex ? box_len : 0));
+    converted = mogtriz_to_graded(long_box, box_len, converted_box, box_len - 1);
+    EXPECT(converted.refusal == (simplex ? MOGTRIZ_REFUSED_BUFFER_LENGTH : MOGTRIZ_REFUSED_FAMILY_UNKNOWN));
+}
+
 /* The length of a box with nodes 1 to `held`, and no byte less, is room for it. */
 static void hold_box_length(size_t family, size_t k, size_t len, size_t held)
 {
@@ -107,6 +119,7 @@ static void hold_box_length(size_t family, size_t k, size_t len, size_t held)
     EXPECT(listed.refusal == MOGTRIZ_SERVED && listed.length == held && memcmp(room, list, held) == 0);
     mogtriz_written written = mogtriz_write(session, long_nodes, nodes_len, list, held, long_box, box_len);
     EXPECT(written.refusal == MOGTRIZ_SERVED && written.length == box_len);
+    hold_converted_length(family, box_len);
     written = mogtriz_write(session, long_nodes, nodes_len, list, held, long_box, box_len - 1);
     EXPECT(written.refusal == MOGTRIZ_REFUSED_BUFFER_LENGTH);
 }
@@ -242,6 +255,24 @@ static void print_tetrahedron(void)
     printf("\n");
 }
 
+/* The node at a position of graded order, out of a box that holds it alone. */
+static uint8_t node_at(uint8_t k, uint8_t position)
+{
+    const uint8_t box[] = {MOGTRIZ_SIMPLEX, k, LEN, 0, 1, 0, 0, 0, position, 0x5a};
+    uint8_t out[sizeof box] = {0};
+    EXPECT(mogtriz_from_graded(box, sizeof box, out, sizeof out).length == sizeof box);
+    return out[MOGTRIZ_BOX_HEAD];
+}
+
+static void print_graded_order(void)
+{
+    printf("With k %d the nodes at positions 1 to %d are", K, N);
+    for (uint8_t position = 1; position <= N; position++) {
+        printf(" %d", node_at(K, position));
+    }
+    printf(";\n");
+}
+
 int main(void)
 {
     hold_families();
@@ -253,5 +284,6 @@ int main(void)
     hold_texts();
     hold_columns();
     print_tetrahedron();
+    print_graded_order();
     return wrong == 0 ? 0 : 1;
 }

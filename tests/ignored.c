@@ -10,6 +10,8 @@ void ignore_answers(uint8_t *buffer, size_t length)
     mogtriz_check(buffer, length);
     mogtriz_read(three_box, sizeof three_box, buffer, length);
     mogtriz_body(buffer, length, 4);
+    mogtriz_from_graded(three_box, sizeof three_box, buffer, length);
+    mogtriz_to_graded(three_box, sizeof three_box, buffer, length);
     mogtriz_write(three_live(), three_nodes, sizeof three_nodes, kept, sizeof kept, buffer, length);
     mogtriz_live_nodes(three_live(), buffer, length);
     mogtriz_read_out(three_live(), all_nodes, sizeof all_nodes, buffer, length);

@@ -74,6 +74,16 @@ static void body(void)
     given = mogtriz_body(box, box_len, list[0]).refusal;
 }
 
+static void from_graded(void)
+{
+    given = mogtriz_from_graded(box, box_len, out, sizeof out).refusal;
+}
+
+static void to_graded(void)
+{
+    given = mogtriz_to_graded(box, box_len, out, sizeof out).refusal;
+}
+
 static void write_box(void)
 {
     given = mogtriz_write(session, nodes, nodes_len, list, list_len, out, sizeof out).refusal;
@@ -109,10 +119,11 @@ static struct {
     void (*call)(void);
     size_t most;
 } calls[] = {
-    {"version", version, 0},   {"node_count", node_count, 0}, {"column", column, 0},     {"node_of_column", node_of_column, 0},
-    {"related", related, 0},   {"encode", encode, 0},         {"start", start, 0},       {"check", check, 0},
-    {"read", read_box, 0},     {"body", body, 0},             {"write", write_box, 0},   {"live_nodes", live_nodes, 0},
-    {"read_out", read_out, 0}, {"step", step, 0},             {"plan", make_plan, 0},    {"run", run, 0},
+    {"version", version, 0}, {"node_count", node_count, 0}, {"column", column, 0},           {"node_of_column", node_of_column, 0},
+    {"related", related, 0}, {"encode", encode, 0},         {"start", start, 0},             {"check", check, 0},
+    {"read", read_box, 0},   {"body", body, 0},             {"from_graded", from_graded, 0}, {"to_graded", to_graded, 0},
+    {"write", write_box, 0}, {"live_nodes", live_nodes, 0}, {"read_out", read_out, 0},       {"step", step, 0},
+    {"plan", make_plan, 0},  {"run", run, 0},
 };
 
 enum { CALLS = sizeof calls / sizeof calls[0] };

@@ -1,12 +1,15 @@
-//! Reading and writing a box of every node, timed against copying the same bodies one by one in Rust; and the live nodes listed,
-//! timed against Rust that checks the same of a session's marks.
+//! Reading, writing and converting a box of every node, timed against copying the same bodies one by one in Rust; and the live nodes
+//! listed, timed against Rust that checks the same of a session's marks.
 use crate::rivals::{self, Family};
 use crate::table::{Line, Table};
 use crate::timing::{Aligned, Meter, Way};
 use compare::boxes::HEAD;
+use compare::graded::{self, node_at, position_of};
 use compare::library::handed_in;
 use compare::random::Random;
 use compare::samples::Shape;
+use mogtriz::Refusal;
+use mogtriz::raw::Converted;
 use std::hint::black_box;
 
 const WAYS: [&str; 2] = ["Mogtriz", "Rust"];
@@ -15,8 +18,9 @@ const WAYS: [&str; 2] = ["Mogtriz", "Rust"];
 const GOAL: f64 = 1.4;
 
 /// A code at the L with which a box of every node is just under 64 KiB.
-const CASES: [(Family, usize, usize); 2] =
-    [(Family::Simplex, 8, 255), (Family::WeightTwo, 22, 256)];
+type Case = (Family, usize, usize);
+const SIMPLEX: Case = (Family::Simplex, 8, 255);
+const WEIGHT_TWO: Case = (Family::WeightTwo, 22, 256);
 
 /// A box of every node, the numbers of its nodes, and the nodes buffer that it is read into.
 struct Full {
@@ -79,27 +83,109 @@ impl Full {
             from,
         )
     }
+
+    /// A node's body stands at its position.
+    fn theirs_to_ours(&self, meter: &mut Meter) -> Vec<Vec<f64>> {
+        let conversion = Conversion {
+            call: mogtriz::from_graded,
+            model: graded::from_graded,
+            place_of: position_of,
+        };
+        self.convert(&conversion, meter)
+    }
+
+    /// The body at a position is that of the node there.
+    fn ours_to_theirs(&self, meter: &mut Meter) -> Vec<Vec<f64>> {
+        let conversion = Conversion {
+            call: mogtriz::to_graded,
+            model: graded::to_graded,
+            place_of: node_at,
+        };
+        self.convert(&conversion, meter)
+    }
+
+    fn convert(&self, conversion: &Conversion, meter: &mut Meter) -> Vec<Vec<f64>> {
+        let source = self.bytes.bytes();
+        let mut expected = vec![0; source.len()];
+        (conversion.model)(source, &mut expected);
+        let place = |&number: &u8| (conversion.place_of)(self.shape.k, number);
+        let places: Vec<u8> = self.list.iter().map(place).collect();
+        let mogtriz = |bytes: &[u8], out: &mut [u8]| {
+            let length = (conversion.call)(bytes, out);
+            assert_eq!(length.expect("a sound call"), out.len());
+        };
+        let from = self.bodies_from();
+        let rust = |bytes: &[u8], out: &mut [u8]| {
+            rivals::write_bodies(&places, self.shape.len, &bytes[from..], &mut out[from..]);
+        };
+        let ways: [Way; 2] = [&mogtriz, &rust];
+        let mut out = Aligned::unfilled(source.len());
+        // the copies leave out what stands before the bodies
+        meter.compare_and_measure(&ways, source, &mut out, &expected, from)
+    }
+}
+
+/// A conversion of a box of every node: the library's, the papers' model, and the place of the body that comes to a number.
+struct Conversion {
+    call: fn(&[u8], &mut [u8]) -> Result<usize, Refusal>,
+    model: fn(&[u8], &mut [u8]) -> Converted,
+    place_of: fn(usize, u8) -> u8,
 }
 
 type Measured = fn(&Full, &mut Meter) -> Vec<Vec<f64>>;
 
-fn table(title: &'static str, random: &mut Random, meter: &mut Meter, measured: Measured) -> Table {
-    let line = |(family, k, len): (Family, usize, usize)| Line {
+fn line(
+    (family, k, len): Case,
+    random: &mut Random,
+    meter: &mut Meter,
+    measured: Measured,
+) -> Line {
+    Line {
         name: family.name(k, format!("L {len}")),
         goals: vec![Some(GOAL)],
         measured: measured(&Full::new(family, k, len, random), meter),
-    };
+    }
+}
+
+fn table<const CASES: usize>(
+    title: &'static str,
+    cases: [Case; CASES],
+    random: &mut Random,
+    meter: &mut Meter,
+    measured: Measured,
+) -> Table {
     Table {
         title,
         ways: &WAYS,
-        lines: CASES.map(line).into(),
+        lines: cases.map(|case| line(case, random, meter, measured)).into(),
     }
 }
 
 pub fn tables(random: &mut Random, meter: &mut Meter) -> [Table; 2] {
+    let cases = [SIMPLEX, WEIGHT_TWO];
     [
-        table("read a box", random, meter, Full::read),
-        table("write a box", random, meter, Full::write),
+        table("read a box", cases, random, meter, Full::read),
+        table("write a box", cases, random, meter, Full::write),
+    ]
+}
+
+/// Theirs to ours, and ours to theirs.
+pub fn conversions(random: &mut Random, meter: &mut Meter) -> [Table; 2] {
+    [
+        table(
+            "convert from graded",
+            [SIMPLEX],
+            random,
+            meter,
+            Full::theirs_to_ours,
+        ),
+        table(
+            "convert to graded",
+            [SIMPLEX],
+            random,
+            meter,
+            Full::ours_to_theirs,
+        ),
     ]
 }
 

@@ -36,7 +36,7 @@ fn main() -> io::Result<()> {
     Ok(())
 }
 
-fn tables(mut meter: Meter) -> [Table; 8] {
+fn tables(mut meter: Meter) -> [Table; 10] {
     let mut random = Random::seeded();
     let [read, write] = boxes::tables(&mut random, &mut meter);
     let encode = encoding::table(&mut random, &mut meter);
@@ -45,7 +45,19 @@ fn tables(mut meter: Meter) -> [Table; 8] {
     let step = repairs::steps(&mut random, &mut meter);
     let relate = relations::table(&mut random, &mut meter);
     let list = boxes::live_lists(&mut random, &mut meter);
-    [encode, read, write, list, plan, run, step, relate]
+    let [from_graded, to_graded] = boxes::conversions(&mut random, &mut meter);
+    [
+        encode,
+        read,
+        write,
+        from_graded,
+        to_graded,
+        list,
+        plan,
+        run,
+        step,
+        relate,
+    ]
 }
 
 fn print_times(tables: &[Table]) {

@@ -234,7 +234,7 @@ pub fn read_bodies(list: &[u8], len: usize, bodies: &[u8], nodes: &mut [u8]) {
     }
 }
 
-/// Copies each body from its node's place.
+/// Copies each body from its node's place; or, of a box of every node, from the place that the list says.
 pub fn write_bodies(list: &[u8], len: usize, nodes: &[u8], bodies: &mut [u8]) {
     for (&node, body) in list.iter().zip(bodies.chunks_exact_mut(len)) {
         body.copy_from_slice(block(nodes, len, node.into()));

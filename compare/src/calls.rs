@@ -2,8 +2,8 @@
 //! Each function gives the call's number; those that go on from a session give the answer. As the Rust package leaves out a
 //! part of each answer, every call is made of C besides: it writes the same bytes again.
 use crate::guarded::Guarded;
-use crate::{boxes, library, planner};
-use mogtriz::raw::{self, Repairs, Session, Stepped};
+use crate::{boxes, graded, library, planner};
+use mogtriz::raw::{self, Converted, Repairs, Session, Stepped};
 
 /// The bytes of a message, cut where they would fill the screen.
 fn shown(bytes: &[u8]) -> String {
@@ -61,6 +61,40 @@ pub fn body(bytes: &[u8], node: usize) -> u8 {
     let place = || format!("body {node} of {}", shown(bytes));
     for body in [library::body, raw::body] {
         assert_eq!(body(lent.bytes(), node), wanted, "{}", place());
+    }
+    assert!(lent.untouched(), "{}: the box was written to", place());
+    wanted.refusal
+}
+
+type Conversion = fn(&[u8], &mut [u8]) -> Converted;
+
+pub fn from_graded(bytes: &[u8], out_len: usize) -> u8 {
+    let calls = [library::from_graded, raw::from_graded];
+    convert("from graded", bytes, out_len, graded::from_graded, calls)
+}
+
+pub fn to_graded(bytes: &[u8], out_len: usize) -> u8 {
+    let calls = [library::to_graded, raw::to_graded];
+    convert("to graded", bytes, out_len, graded::to_graded, calls)
+}
+
+fn convert(
+    name: &str,
+    bytes: &[u8],
+    out_len: usize,
+    model: Conversion,
+    calls: [Conversion; 2],
+) -> u8 {
+    let lent = Guarded::holding(bytes);
+    let mut out = Guarded::filled(out_len);
+    let mut expected = out.bytes().to_vec();
+    let wanted = model(bytes, &mut expected);
+    let place = || format!("{name} {} into {out_len}", shown(bytes));
+    for call in calls {
+        out.restore();
+        assert_eq!(call(lent.bytes(), out.bytes_mut()), wanted, "{}", place());
+        let as_wanted = written_as(&out, &expected);
+        assert!(as_wanted, "{}: the new box differs", place());
     }
     assert!(lent.untouched(), "{}: the box was written to", place());
     wanted.refusal

@@ -21,8 +21,14 @@ pub struct Guarded {
 }
 
 thread_local! {
-    // buffers take turns in having their guard before and after them
-    static GUARD_FIRST: Cell<bool> = const { Cell::new(false) };
+    static BUFFERS: Cell<u64> = const { Cell::new(0) };
+}
+
+/// Whether the next buffer has its guard before it. Of two in a row one has, and which of them goes by the number's bits: if buffers
+/// took turns, a call that is lent two would always get the same one on the same side.
+fn guard_comes_first() -> bool {
+    let number = BUFFERS.replace(BUFFERS.get() + 1);
+    number.count_ones() % 2 == 1
 }
 
 impl Guarded {
@@ -35,7 +41,7 @@ impl Guarded {
     pub fn holding(bytes: &[u8]) -> Guarded {
         let len = bytes.len();
         let guard = &PATTERN[..GUARD];
-        let (before, now, lent) = match GUARD_FIRST.replace(!GUARD_FIRST.get()) {
+        let (before, now, lent) = match guard_comes_first() {
             true => (
                 [guard, bytes].concat(),
                 Pages::at_end(GUARD + len),

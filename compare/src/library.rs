@@ -4,7 +4,7 @@
 //! `mogtriz::raw` has what C gives.
 use crate::boxes::NO_SESSION;
 use mogtriz::Refusal;
-use mogtriz::raw::{Part, ReadOut, Repairs, Session, Started, Stepped, Written};
+use mogtriz::raw::{Converted, Part, ReadOut, Repairs, Session, Started, Stepped, Written};
 
 pub fn encode(family: usize, k: usize, len: usize, object: &[u8], nodes: &mut [u8]) -> u8 {
     number(mogtriz::encode(family, k, len, object, nodes))
@@ -52,6 +52,14 @@ pub fn body(bytes: &[u8], node: usize) -> Part {
             length: 0,
         },
     }
+}
+
+pub fn from_graded(bytes: &[u8], out: &mut [u8]) -> Converted {
+    converted(mogtriz::from_graded(bytes, out))
+}
+
+pub fn to_graded(bytes: &[u8], out: &mut [u8]) -> Converted {
+    converted(mogtriz::to_graded(bytes, out))
 }
 
 pub fn write(session: Session, nodes: &[u8], list: &[u8], out: &mut [u8]) -> Written {
@@ -126,6 +134,13 @@ fn started(answer: Result<mogtriz::Session, Refusal>) -> Started {
     Started {
         session: answer.as_ref().map_or(NO_SESSION, left_of),
         refusal: number(answer),
+    }
+}
+
+fn converted(answer: Result<usize, Refusal>) -> Converted {
+    Converted {
+        refusal: number(answer),
+        length: answer.unwrap_or(0),
     }
 }
 

@@ -1,4 +1,4 @@
-//! Checking boxes, reading them and finding bodies in them, against the papers' model, over boxes of every
+//! Checking boxes, reading them, finding bodies in them and converting them, against the papers' model, over boxes of every
 //! content and length.
 use compare::boxes::{HEAD, box_len, head};
 use compare::calls;
@@ -323,4 +323,22 @@ fn bodies_are_found_as_the_papers_say() {
         }
     });
     tally.report(&[0, 1, 2, 3, 4, 5, 7, 8, 9, 12], 1_000_000);
+}
+
+/// Room for a box as long as this one: just enough, a byte less, less, more, or a length that is 0 once cut to 8 or 16 bits.
+fn room_for(bytes: &[u8], random: &mut Random) -> usize {
+    let exact = bytes.len();
+    let [less, more] = [random.below(exact + 1), exact + 1 + random.below(300)];
+    let cut = if random.below(50) == 0 { 65_536 } else { 256 };
+    *random.of(&[exact, exact, exact.saturating_sub(1), less, more, cut])
+}
+
+#[test]
+fn boxes_are_converted_as_the_papers_say() {
+    let mut tally = Tally::of("convert");
+    over_every_kind(&mut tally, |tally, random, bytes| {
+        tally.add(calls::from_graded(bytes, room_for(bytes, random)));
+        tally.add(calls::to_graded(bytes, room_for(bytes, random)));
+    });
+    tally.report(&[0, 1, 2, 3, 4, 5, 6, 7, 8, 9], 1_000_000);
 }

@@ -88,6 +88,16 @@ impl Case {
         [calls::check(&bytes), calls::read(&bytes, nodes_len), body]
     }
 
+    /// What the two conversions give of such a box.
+    fn numbers_of_conversions(&self, random: &mut Random) -> [u8; 2] {
+        let bytes = self.shape.box_of(&self.live(), random);
+        let room = bytes.len();
+        [
+            calls::from_graded(&bytes, room),
+            calls::to_graded(&bytes, room),
+        ]
+    }
+
     /// What step, plan, run, write, live nodes and read out give in a session with this L.
     fn numbers_in_a_session(&self, random: &mut Random) -> [u8; 6] {
         let live = self.live();
@@ -123,6 +133,10 @@ fn hold_every_call(lens: &[usize], number: u8, in_session: u8) {
             if len < 1 << 16 {
                 let numbers = case.numbers_of_a_box(random);
                 assert_eq!(numbers, [number; 3], "{place}");
+                // a box of the other families that is served elsewhere gets 1
+                let wanted = if family == 1 { number } else { number.max(1) };
+                let numbers = case.numbers_of_conversions(random);
+                assert_eq!(numbers, [wanted; 2], "{place}");
             }
         }
     }

@@ -1,7 +1,9 @@
 //! Tables and matrices printed in the source documents, against the library.
+use compare::boxes::{block_at, head};
 use compare::library;
-use compare::papers::{MATRIX_7, column_number};
+use compare::papers::{MATRIX_7, column_number, xor_into};
 use compare::random::Random;
+use mogtriz::{Refusal, Session, from_graded_to_vec, to_graded_to_vec};
 
 /// Table 2 of source document 002: by symbol index, its pairs of symbol indexes.
 const TABLE_2: [[(usize, usize); 6]; 14] = [
@@ -94,4 +96,90 @@ fn sums_of_example_3_1_are_related() {
         assert_eq!(library::related(1, 3, nodes), 1, "{sum:?}");
     }
     println!("4 sums of example 3.1");
+}
+
+/// Example 3.1: the nodes that are live, in the document's numbers.
+const LIVE_3_1: [u8; 3] = [3, 5, 7];
+
+/// The document's codeword c = uG, as blocks of L bytes.
+fn codeword(u: &[u8], len: usize) -> Vec<u8> {
+    let mut c = vec![0; 7 * len];
+    for (p, block) in c.chunks_mut(len).enumerate() {
+        for (row, data) in EXAMPLE_2_1.iter().zip(u.chunks(len)) {
+            if row[p] == 1 {
+                xor_into(block, data);
+            }
+        }
+    }
+    c
+}
+
+/// A box of these nodes of a codeword, in the document's numbers.
+fn box_of_codeword(c: &[u8], len: usize, list: &[u8]) -> Vec<u8> {
+    let mut bytes = head(1, 3, len, list.len());
+    bytes.extend(list);
+    for &p in list {
+        bytes.extend(&c[block_at(p, len)]);
+    }
+    bytes
+}
+
+/// The session and the nodes that the box of example 3.1 gives once it is converted: nodes 4, 5 and 7, with the bodies of c_3, c_5
+/// and c_7.
+fn read_example_3_1(c: &[u8], len: usize) -> Result<(Session, Vec<u8>), Refusal> {
+    let ours = from_graded_to_vec(&box_of_codeword(c, len, &LIVE_3_1))?;
+    assert_eq!(ours[8..11], [4, 5, 7]);
+    for (node, p) in [(4, 3), (5, 5), (7, 7)] {
+        assert_eq!(mogtriz::body(&ours, node)?, &c[block_at(p, len)]);
+    }
+    Session::read_to_vec(&ours)
+}
+
+/// A box of every node, converted to the document's numbers, has its codeword.
+fn compare_with_codeword(session: &Session, nodes: &[u8], c: &[u8]) -> Result<(), Refusal> {
+    let all = session.live_nodes_to_vec()?;
+    let theirs = to_graded_to_vec(&session.write_to_vec(nodes, &all)?)?;
+    let wanted = box_of_codeword(c, session.block_len(), &[1, 2, 3, 4, 5, 6, 7]);
+    assert_eq!(theirs, wanted);
+    Ok(())
+}
+
+/// The node at a position of the document, out of a box that holds it alone.
+fn node_at(p: usize) -> Result<usize, Refusal> {
+    let ours = from_graded_to_vec(&[1, 3, 1, 0, 1, 0, 0, 0, p as u8, 0x5a])?;
+    Ok(ours[8].into())
+}
+
+#[test]
+fn example_3_1_is_repaired_from_a_box_in_its_own_numbers() -> Result<(), Refusal> {
+    let mut random = Random::seeded();
+    for len in [1, 2, 64] {
+        for _ in 0..20 {
+            let c = codeword(&random.bytes(3 * len), len);
+            let (mut session, mut nodes) = read_example_3_1(&c, len)?;
+            assert_eq!(session.run(&mut nodes)?.left, 0);
+            compare_with_codeword(&session, &nodes, &c)?;
+        }
+    }
+    println!("60 codewords of example 2.1 repaired from c_3, c_5 and c_7");
+    Ok(())
+}
+
+/// In the document c_6 cannot be repaired first; the sums that it names are steps in the order in which it names them.
+#[test]
+fn sums_of_example_3_1_are_steps_once_the_box_is_converted() -> Result<(), Refusal> {
+    let mut random = Random::seeded();
+    let len = 5;
+    let c = codeword(&random.bytes(3 * len), len);
+    let (mut session, mut nodes) = read_example_3_1(&c, len)?;
+    let mut step = |[node, first, second]: [usize; 3]| {
+        let pair = [node_at(first)?, node_at(second)?];
+        session.step(&mut nodes, node_at(node)?, pair)
+    };
+    assert_eq!(step(EXAMPLE_3_1[3]), Err(Refusal::NodeMissing));
+    for sum in EXAMPLE_3_1 {
+        step(sum)?;
+    }
+    assert_eq!(session.missing_nodes().count(), 0);
+    compare_with_codeword(&session, &nodes, &c)
 }

@@ -1,7 +1,8 @@
-//! A box of any content: checked, read, and a body looked for in it; an accepted one is written again, repaired and read
-//! out.
+//! A box of any content: checked, read, a body looked for in it, and converted from and to graded order; an accepted one is written
+//! again, repaired and read out, and one that is converted comes back.
 use crate::input::{Input, MOST_BYTES};
-use crate::seen::Operation::{Body, Check, LiveNodes, Plan, Read, ReadOut, Run, Write};
+use crate::seen::Operation::{Body, Check, FromGraded, LiveNodes, Plan};
+use crate::seen::Operation::{Read, ReadOut, Run, ToGraded, Write};
 use crate::seen::count;
 use compare::boxes::{self, HEAD, box_len, live_nodes};
 use compare::papers::checked_node_count;
@@ -10,8 +11,8 @@ use mogtriz::raw::Session;
 
 pub fn compare(input: &mut Input) {
     let node = input.number();
-    // the length is near what the box asks for, which follows
-    let mut tags = Input(input.part(2));
+    // the lengths are near what the box asks for, which follows
+    let tags = input.part(2);
     let list = input.list();
     let tag = input.byte();
     let bytes = &box_from(input.0, tag);
@@ -21,7 +22,8 @@ pub fn compare(input: &mut Input) {
         count(Body, calls::body(bytes, node.wrapping_add(raise)));
     }
     let checked = boxes::check(bytes);
-    let nodes_len = tags.nodes_len(&checked.session);
+    with_room(bytes, Input(tags).length_near(bytes.len()));
+    let nodes_len = Input(tags).nodes_len(&checked.session);
     if count(Read, calls::read(bytes, nodes_len)) == 0 {
         let mut nodes = vec![0x5a; nodes_len];
         library::read(bytes, &mut nodes);
@@ -52,6 +54,22 @@ fn near_n(family: usize, k: usize, choice: u8) -> u8 {
     let n = checked_node_count(family, k, 1).unwrap_or(1);
     let held = n - 1 + usize::from(choice % 4);
     held.min(255) as u8
+}
+
+/// A box converted into so much room, both ways; where that is served it comes back with the same bytes.
+fn with_room(bytes: &[u8], room: usize) {
+    let mut other = vec![0; room];
+    let mut again = vec![0; bytes.len()];
+    if count(FromGraded, calls::from_graded(bytes, room)) == 0 {
+        let length = library::from_graded(bytes, &mut other).length;
+        library::to_graded(&other[..length], &mut again);
+        assert_eq!(again, bytes);
+    }
+    if count(ToGraded, calls::to_graded(bytes, room)) == 0 {
+        let length = library::to_graded(bytes, &mut other).length;
+        library::from_graded(&other[..length], &mut again);
+        assert_eq!(again, bytes);
+    }
 }
 
 /// An accepted box has the same bytes when it is written again, by its live nodes, which are its own list; then lists of its nodes,

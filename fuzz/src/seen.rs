@@ -10,6 +10,8 @@ pub enum Operation {
     Check,
     Read,
     Body,
+    FromGraded,
+    ToGraded,
     Write,
     LiveNodes,
     ReadOut,
@@ -18,11 +20,13 @@ pub enum Operation {
     Run,
 }
 
-const NAMES: [&str; 10] = [
+const NAMES: [&str; 12] = [
     "start",
     "check",
     "read",
     "body",
+    "from graded",
+    "to graded",
     "write",
     "live nodes",
     "read out",
@@ -53,6 +57,6 @@ extern "C" fn print() {
         let cells: Vec<String> = seen
             .map(|(number, count)| format!("{number}: {count}"))
             .collect();
-        println!("{name:<10} {}", cells.join("  "));
+        println!("{name:<11} {}", cells.join("  "));
     }
 }

@@ -1,4 +1,5 @@
-//! Boxes: checked, read, written, and one node's body found in one; the live nodes listed; and the object read out.
+//! Boxes: checked, read, written, one node's body found in one, and one converted from or to graded order; the live nodes listed;
+//! and the object read out.
 use crate::{Refusal, Session, raw};
 
 /// The body of one node, as that part of the box; no copy is made.
@@ -23,6 +24,71 @@ pub fn body(bytes: &[u8], node: usize) -> Result<&[u8], Refusal> {
     let part = raw::body(bytes, node);
     Refusal::unless_served(part.refusal)?;
     Ok(&bytes[part.from..part.from + part.length])
+}
+
+/// Converts a box in graded order to our numbers, and gives its length.
+///
+/// In graded order simplex nodes have other numbers, their positions from 1 to n: they stand by how many data blocks they hold,
+/// and those that hold as many by the rising lists of the blocks' numbers, compared from the front. With k = 3 the nodes at
+/// positions 1 to 7 are 1, 2, 4, 3, 5, 6, 7; a smaller k leaves out, of the order for k = 8, the columns of 2^k and above.
+///
+/// Each position becomes the node there. The numbers rise in the new box too, each body moves with its number, and the rest
+/// stays. The new box is as long as the box handed in; of the destination what lies beyond it is not written. A box does not
+/// tell which numbers it has: the caller has to know.
+///
+/// # Errors
+///
+/// The first of these that is met; nothing is written then.
+///
+/// - those of [`Session::check`], in its order
+/// - 1, [`Refusal::FamilyUnknown`]: the box is of family 2 or 3
+/// - 6, [`Refusal::BufferLength`]: the destination is shorter than the box
+///
+/// ```
+/// use mogtriz::{Refusal, from_graded};
+/// // with k = 4, positions 4, 5 and 8 are nodes 8, 3 and 6
+/// let theirs = *b"\x01\x04\x01\0\x03\0\0\0\x04\x05\x08abc";
+/// let mut ours = [0xaa; 16];
+/// assert_eq!(from_graded(&theirs, &mut ours)?, 14);
+/// assert_eq!(ours, *b"\x01\x04\x01\0\x03\0\0\0\x03\x06\x08bca\xaa\xaa");
+///
+/// assert_eq!(from_graded(&theirs, &mut ours[..13]), Err(Refusal::BufferLength));
+/// # Ok::<(), mogtriz::Refusal>(())
+/// ```
+pub fn from_graded(bytes: &[u8], out: &mut [u8]) -> Result<usize, Refusal> {
+    converted(raw::from_graded(bytes, out))
+}
+
+/// Converts a box with our numbers to graded order, the reverse of [`from_graded`], and gives its length.
+///
+/// Each node becomes its position. A box that is converted there and back, either way round, has the same bytes.
+///
+/// # Errors
+///
+/// The first of these that is met; nothing is written then.
+///
+/// - those of [`Session::check`], in its order
+/// - 1, [`Refusal::FamilyUnknown`]: the box is of family 2 or 3
+/// - 6, [`Refusal::BufferLength`]: the destination is shorter than the box
+///
+/// ```
+/// use mogtriz::{Refusal, to_graded};
+/// let ours = *b"\x01\x04\x01\0\x03\0\0\0\x03\x06\x08bca";
+/// let mut theirs = [0; 14];
+/// assert_eq!(to_graded(&ours, &mut theirs)?, 14);
+/// assert_eq!(theirs, *b"\x01\x04\x01\0\x03\0\0\0\x04\x05\x08abc");
+///
+/// let weight_two = [2, 4, 1, 0, 0, 0, 0, 0];
+/// assert_eq!(to_graded(&weight_two, &mut theirs), Err(Refusal::FamilyUnknown));
+/// # Ok::<(), mogtriz::Refusal>(())
+/// ```
+pub fn to_graded(bytes: &[u8], out: &mut [u8]) -> Result<usize, Refusal> {
+    converted(raw::to_graded(bytes, out))
+}
+
+fn converted(answer: raw::Converted) -> Result<usize, Refusal> {
+    Refusal::unless_served(answer.refusal)?;
+    Ok(answer.length)
 }
 
 impl Session {

@@ -54,13 +54,18 @@
 //! node is at hand: a [`start`](Session::start) with the list 1 to n says so. For a node that is lost or found damaged later,
 //! start anew without it.
 //!
+//! # Boxes with other node numbers
+//!
+//! Others number simplex nodes in graded order. [`from_graded`] converts such a box to our numbers and [`to_graded`] one with our
+//! numbers to theirs; every other call takes boxes with our numbers.
+//!
 //! # Buffers and features
 //!
 //! Calls write to buffers that the caller lends; [`nodes_len`], [`object_len`], [`box_len`], [`PLAN_ROOM`] and, for a list of
 //! nodes, [`MOST_NODES`] say how long they have to be. With the feature `alloc`, which is on unless `default-features = false`
-//! is said, encode, read, write, live nodes, read out and plan have a second form that gives a `Vec` instead, by the name with
-//! `_to_vec` at its end, as `write_to_vec` and `live_nodes_to_vec`. Without it the package needs neither the standard library
-//! nor an allocator.
+//! is said, encode, read, write, live nodes, read out, plan and the conversions have a second form that gives a `Vec` instead,
+//! by the name with `_to_vec` at its end, as `write_to_vec` and `live_nodes_to_vec`. Without it the package needs neither the
+//! standard library nor an allocator.
 #![no_std]
 #![deny(unsafe_code, missing_docs)]
 
@@ -81,7 +86,7 @@ mod session;
 mod vecs;
 mod version;
 
-pub use boxes::body;
+pub use boxes::{body, from_graded, to_graded};
 pub use codes::{SIMPLEX, TETRAHEDRON, WEIGHT_TWO, column, encode, node_of_column, related};
 pub use lengths::{
     MOST_K, MOST_LEN, MOST_NODES, PLAN_ROOM, box_len, node_count, nodes_len, object_len,
@@ -91,5 +96,5 @@ pub use refusal::Refusal;
 pub use repair::Repairs;
 pub use session::{MARKS, Session};
 #[cfg(feature = "alloc")]
-pub use vecs::encode_to_vec;
+pub use vecs::{encode_to_vec, from_graded_to_vec, to_graded_to_vec};
 pub use version::{VERSION, version};

@@ -76,6 +76,14 @@ pub struct Part {
     pub length: usize,
 }
 
+/// C's `mogtriz_converted`: what converting a box gives, with its length.
+#[repr(C)]
+#[derive(Clone, Copy, Debug, PartialEq, Eq)]
+pub struct Converted {
+    pub refusal: u8,
+    pub length: usize,
+}
+
 /// Family, k, L, and the marks that are not 0, as most are.
 impl fmt::Debug for Session {
     fn fmt(&self, f: &mut fmt::Formatter) -> fmt::Result {
@@ -115,6 +123,18 @@ unsafe extern "C" {
         nodes_len: usize,
     ) -> Started;
     fn mogtriz_body(bytes: *const u8, bytes_len: usize, node: usize) -> Part;
+    fn mogtriz_from_graded(
+        bytes: *const u8,
+        bytes_len: usize,
+        out: *mut u8,
+        out_len: usize,
+    ) -> Converted;
+    fn mogtriz_to_graded(
+        bytes: *const u8,
+        bytes_len: usize,
+        out: *mut u8,
+        out_len: usize,
+    ) -> Converted;
     fn mogtriz_write(
         session: Session,
         nodes: *const u8,
@@ -190,6 +210,16 @@ pub fn read(bytes: &[u8], nodes: &mut [u8]) -> Started {
 pub fn body(bytes: &[u8], node: usize) -> Part {
     // SAFETY: as above.
     unsafe { mogtriz_body(bytes.as_ptr(), bytes.len(), node) }
+}
+
+pub fn from_graded(bytes: &[u8], out: &mut [u8]) -> Converted {
+    // SAFETY: as above.
+    unsafe { mogtriz_from_graded(bytes.as_ptr(), bytes.len(), out.as_mut_ptr(), out.len()) }
+}
+
+pub fn to_graded(bytes: &[u8], out: &mut [u8]) -> Converted {
+    // SAFETY: as above.
+    unsafe { mogtriz_to_graded(bytes.as_ptr(), bytes.len(), out.as_mut_ptr(), out.len()) }
 }
 
 pub fn write(session: Session, nodes: &[u8], list: &[u8], out: &mut [u8]) -> Written {

@@ -15,7 +15,7 @@ use core::fmt;
 #[derive(Clone, Copy, Debug, PartialEq, Eq, Hash)]
 #[non_exhaustive]
 pub enum Refusal {
-    /// 1: the family is not 1, 2 or 3.
+    /// 1: the family is not 1, 2 or 3; or, where a box is converted, not simplex.
     FamilyUnknown,
     /// 2: k is outside its family's range.
     KOutOfRange,
@@ -131,7 +131,7 @@ impl Refusal {
 
     fn reason(self) -> &'static str {
         match self {
-            Refusal::FamilyUnknown => "the family is not 1, 2 or 3",
+            Refusal::FamilyUnknown => "the family is not one that the call takes",
             Refusal::KOutOfRange => "k is outside its family's range",
             Refusal::LenOutOfRange => "the block length is 0 or above",
             Refusal::NoSuchNode => "a node number is 0 or above the last node's",

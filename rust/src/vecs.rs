@@ -1,5 +1,6 @@
 //! The calls that fill a buffer, giving a `Vec` of just the length instead.
-use crate::{MOST_NODES, PLAN_ROOM, Refusal, Repairs, Session, Step, encode, nodes_len};
+use crate::{MOST_NODES, PLAN_ROOM, Refusal, Repairs, Session, Step};
+use crate::{encode, from_graded, nodes_len, to_graded};
 use alloc::vec;
 use alloc::vec::Vec;
 
@@ -28,6 +29,50 @@ pub fn encode_to_vec(
     let mut nodes = vec![0; nodes_len(family, k, len)?];
     encode(family, k, len, object, &mut nodes)?;
     Ok(nodes)
+}
+
+/// The box that [`from_graded`] makes of a box in graded order, with our numbers. With the feature `alloc`.
+///
+/// # Errors
+///
+/// The first of these that is met:
+///
+/// - those of [`Session::check`], in its order
+/// - 1, [`Refusal::FamilyUnknown`]: the box is of family 2 or 3
+///
+/// ```
+/// // with k = 3, positions 3, 5 and 7 are nodes 4, 5 and 7
+/// let theirs = *b"\x01\x03\x01\0\x03\0\0\0\x03\x05\x07def";
+/// let ours = mogtriz::from_graded_to_vec(&theirs)?;
+/// assert_eq!(ours, b"\x01\x03\x01\0\x03\0\0\0\x04\x05\x07def");
+/// # Ok::<(), mogtriz::Refusal>(())
+/// ```
+pub fn from_graded_to_vec(bytes: &[u8]) -> Result<Vec<u8>, Refusal> {
+    let mut out = vec![0; bytes.len()];
+    from_graded(bytes, &mut out)?;
+    Ok(out)
+}
+
+/// The box in graded order that [`to_graded`] makes of a box with our numbers. With the feature `alloc`.
+///
+/// # Errors
+///
+/// The first of these that is met:
+///
+/// - those of [`Session::check`], in its order
+/// - 1, [`Refusal::FamilyUnknown`]: the box is of family 2 or 3
+///
+/// ```
+/// let ours = *b"\x01\x03\x01\0\x03\0\0\0\x04\x05\x07def";
+/// let theirs = mogtriz::to_graded_to_vec(&ours)?;
+/// assert_eq!(theirs, b"\x01\x03\x01\0\x03\0\0\0\x03\x05\x07def");
+/// assert_eq!(mogtriz::from_graded_to_vec(&theirs)?, ours);
+/// # Ok::<(), mogtriz::Refusal>(())
+/// ```
+pub fn to_graded_to_vec(bytes: &[u8]) -> Result<Vec<u8>, Refusal> {
+    let mut out = vec![0; bytes.len()];
+    to_graded(bytes, &mut out)?;
+    Ok(out)
 }
 
 impl Session {

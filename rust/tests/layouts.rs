@@ -2,7 +2,7 @@
 //! that it has in `raw`, and the header has no other.
 mod in_c;
 
-use mogtriz::raw::{Part, ReadOut, Repairs, Session, Started, Stepped, Written};
+use mogtriz::raw::{Converted, Part, ReadOut, Repairs, Session, Started, Stepped, Written};
 use std::fmt::Write;
 use std::fs;
 use std::mem::{offset_of, size_of};
@@ -36,6 +36,7 @@ fn layouts_in_rust() -> String {
         layout!("mogtriz_stepped" Stepped { refusal, session }),
         layout!("mogtriz_repairs" Repairs { refusal, steps, rounds, left, session }),
         layout!("mogtriz_part" Part { refusal, from, length }),
+        layout!("mogtriz_converted" Converted { refusal, length }),
     ]
     .concat()
 }

@@ -2,7 +2,7 @@
 //! turned away.
 use mogtriz::{
     MARKS, MOST_LEN, PLAN_ROOM, Refusal, SIMPLEX, Session, Step, TETRAHEDRON, WEIGHT_TWO, box_len,
-    encode, node_count, nodes_len, object_len,
+    encode, from_graded, node_count, nodes_len, object_len, to_graded,
 };
 
 const LENGTHS: [usize; 4] = [1, 2, 255, MOST_LEN];
@@ -64,6 +64,19 @@ fn every_live_node(session: &Session) -> Result<Vec<u8>, Refusal> {
     Ok(list)
 }
 
+/// A box of simplex nodes is converted into its own length, and a byte less is turned away; one of the others never is.
+fn convert_asks_for_the_length_of_the_box(family: usize, bytes: &[u8]) {
+    let (mut out, length) = (vec![0; bytes.len()], bytes.len());
+    for convert in [from_graded, to_graded] {
+        let wanted = match family {
+            SIMPLEX => [Ok(length), Err(Refusal::BufferLength)],
+            _ => [Err(Refusal::FamilyUnknown); 2],
+        };
+        let converted = [length, length - 1].map(|room| convert(bytes, &mut out[..room]));
+        assert_eq!(converted, wanted, "family {family}, {length} bytes");
+    }
+}
+
 #[test]
 fn write_asks_for_the_length_of_the_box() -> Result<(), Refusal> {
     for session in full_sessions() {
@@ -81,6 +94,7 @@ fn write_asks_for_the_length_of_the_box() -> Result<(), Refusal> {
             let refused = session.write(&nodes, list, &mut out[1..]);
             assert_eq!(refused, Err(Refusal::BufferLength), "{session:?}");
             assert_eq!(Session::check(&out)?.live_nodes().count(), held);
+            convert_asks_for_the_length_of_the_box(family, &out);
         }
         for held in [n + 1, usize::MAX] {
             assert_eq!(session.box_len(held), Err(Refusal::TooManyNodes));

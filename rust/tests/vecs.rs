@@ -2,7 +2,7 @@
 #![cfg(feature = "alloc")]
 use mogtriz::{
     MARKS, MOST_LEN, MOST_NODES, PLAN_ROOM, Refusal, SIMPLEX, Session, TETRAHEDRON, WEIGHT_TWO,
-    encode, encode_to_vec,
+    encode, encode_to_vec, from_graded, from_graded_to_vec, to_graded, to_graded_to_vec,
 };
 
 const CODES: [(usize, usize, usize); 4] = [
@@ -63,6 +63,34 @@ fn boxes_are_written_and_read_alike() -> Result<(), Refusal> {
             let read = Session::read(&written, &mut again)?;
             assert_eq!(Session::read_to_vec(&written)?, (read, again));
         }
+    }
+    Ok(())
+}
+
+/// A box converted both ways, whatever it is.
+fn convert_alike(box_bytes: &[u8]) {
+    let mut out = vec![0; box_bytes.len()];
+    let length = from_graded(box_bytes, &mut out);
+    let wanted = length.map(|length| out[..length].to_vec());
+    assert_eq!(from_graded_to_vec(box_bytes), wanted);
+    let length = to_graded(box_bytes, &mut out);
+    let wanted = length.map(|length| out[..length].to_vec());
+    assert_eq!(to_graded_to_vec(box_bytes), wanted);
+}
+
+#[test]
+fn boxes_are_converted_and_refused_alike() -> Result<(), Refusal> {
+    for session in CODES.into_iter().flat_map(sessions) {
+        let nodes = bytes(session.nodes_len()?);
+        let written = session.write_to_vec(&nodes, &session.live_nodes_to_vec()?)?;
+        convert_alike(&written);
+        convert_alike(&written[1..]);
+        if session.family() == SIMPLEX {
+            assert_eq!(to_graded_to_vec(&from_graded_to_vec(&written)?)?, written);
+        }
+    }
+    for faulty in [&[][..], &[4; 8], &[1, 3, 1, 0, 1, 0, 0, 0, 8, 0]] {
+        convert_alike(faulty);
     }
     Ok(())
 }

@@ -40,6 +40,12 @@ fn store_and_repair() -> Result<(), Refusal> {
     let length = session.write(&nodes, &list[..count], &mut bytes)?;
     assert!(length == session.box_len(3)?);
 
+    // to graded order and back
+    let mut theirs = [0; 8 + 3 + 3 * 8];
+    assert!(mogtriz::to_graded(&bytes, &mut theirs)? == length);
+    assert!(theirs[8..11] == [3, 5, 7]);
+    assert!(mogtriz::from_graded(&theirs, &mut bytes)? == length);
+
     nodes.fill(0);
     let mut session = Session::read(&bytes, &mut nodes)?;
     let mut out = [0; PLAN_ROOM];
