@@ -5,12 +5,12 @@ use mathlib.Core.Bool.{false}
 use mathlib.Core.List.{List, [], _∷_, _++_, append-nil, flatMap, getLastD, zipWith}
 use Prim.Native.Nat.{ℕ, _-_, _*_, _/_, _≤_}
 use native.Mathlib.Omega.{arith}
-use borrow.Author.Tests.{le-ltb}
-use lib.Dec.{ltb}
+use borrow.Author.Tests.{le-ltb, eqb-false}
+use lib.Dec.{ltb, eqb}
 use lib.ListN.{length, getD, drop}
 use lib.Seq.{ext-getD}
 use Rattle.base.specs.Ranges.{firstFrom, thoseFrom}
-use Rattle.families.specs.Families.{familyOf, nodeCount, columnOf, pairAt, areRelated}
+use Rattle.families.specs.Families.{familyOf, nodeCount, columnOf, nodeOf, pairAt, areRelated}
 use Rattle.base.specs.Inner.{listFrom}
 use Rattle.blocks.specs.Blocks.{joined, xorBytes, blockOf, withBlock}
 use Rattle.checks.specs.Checks.{firstMet}
@@ -26,6 +26,9 @@ use Rattle.planning.proofs.RoundLaws.{length-bytes}
 use Rattle.planning.proofs.CarryLaws.{steps-back}
 use Rattle.boxes.specs.Box.{blockLengthIn, nodeCountIn, boxChecks, bodyChecks, bodyOf}
 use Rattle.boxes.specs.Bodies.{boxOf, withBodies}
+use Rattle.graded.specs.Order.{gradedTable, below}
+use Rattle.conversion.specs.Converted.{conversionChecks, newNames, newBody, renumbered, oursOf, theirsOf, converted, outConverted}
+use Rattle.conversion.proofs.Rules.{converted-refused}
 use Rattle.repair.specs.declared.Session.{Session}
 use Rattle.repair.specs.Session.{sessionOf, acceptedStart, started, startChecks, nodeCountOf, noStart, nodesChecks}
 use Rattle.repair.specs.Boxed.{checkedBox, readChecks, readBox, nodesRead, writeChecks, written, outWritten}
@@ -36,7 +39,7 @@ use Rattle.repair.proofs.StartLaws.{nodes-0}
 use Rattle.repair.proofs.RepairsLaws.{plan-made, run-made}
 use Rattle.listing.specs.Text.{decimal, field, firstLine, stepLine, lastLine, refusalLine}
 use Rattle.listing.specs.Listing.{answerOf, listingIn, listingOf}
-use Rattle.examples.specs.Examples.{Row, Encodes, Plans, Starts, BoxGives, BoxReads, BoxHolds, BoxLacks, BoxSteps, BoxWrites, BoxNames, Lists, allBut, HasPlan, Holds, Every, table, Examples}
+use Rattle.examples.specs.Examples.{Row, Encodes, Plans, Starts, BoxGives, BoxReads, BoxHolds, BoxLacks, BoxSteps, BoxWrites, BoxNames, Converts, ConvertGives, Lists, allBut, HasPlan, Holds, Every, table, Examples}
 
 -- ---- a plan
 
@@ -117,6 +120,11 @@ Computed (BoxNames box list) =
     (out : List ℕ) → ltb (length out) (length list) ≡ false
     → (liveListed (checkedBox box .session) out ≡ record { refusal = 0; length = length list; session = checkedBox box .session })
     × (outListed (checkedBox box .session) out ≡ list ++ drop (length list) out)
+Computed (Converts theirs ours) =
+    (out : List ℕ) → ltb (length out) (length theirs) ≡ false
+    → (converted theirs out ≡ record { refusal = 0; length = length theirs }) × (outConverted oursOf theirs out ≡ ours ++ drop (length theirs) out)
+    × (converted ours out ≡ record { refusal = 0; length = length theirs }) × (outConverted theirsOf ours out ≡ theirs ++ drop (length theirs) out)
+Computed (ConvertGives bytes room number) = (firstMet (conversionChecks bytes room) ≡ number) × (eqb number 0 ≡ false)
 Computed (Lists box text) = Holds (Lists box text)
 
 -- and what follows
@@ -134,6 +142,12 @@ holds (BoxLacks box j number) c = c
 holds (BoxSteps box j a b number) c = each _ _ c
 holds (BoxWrites box list other) c = each _ _ (λ byte out h. c byte out (le-ltb (length out) (length other) h))
 holds (BoxNames box list) c = λ out h. c out (le-ltb (length out) (length list) h)
+holds (Converts theirs ours) c = λ out h. c out (le-ltb (length out) (length theirs) h)
+holds (ConvertGives bytes room number) (is, some) = λ out e.
+    let given : firstMet (conversionChecks bytes (length out)) ≡ number = ap (λ (m : ℕ). firstMet (conversionChecks bytes m)) e ∙ is in
+    let met : firstMet (conversionChecks bytes (length out)) ≡ 0 → ⊥ = λ z. eqb-false number 0 some (sym given ∙ z) in
+    let r = converted-refused bytes out oursOf met in
+    (r .0 ∙ ap (λ (m : ℕ). record { refusal = m; length = 0 }) given, r .1, converted-refused bytes out theirsOf met .1)
 holds (Lists box text) c = c
 
 all-hold : (rows : List Row) → Every Computed rows → Every Holds rows
@@ -148,7 +162,7 @@ _&_ : {A B : Type 0} → A → B → A × B
 a & b = (a, b)
 
 computed : Every Computed table
-unfolding started refusalLine encodeChecks parameterChecks firstMet nodesBuffer joined nodeBlock columnOf nodeCount xorBytes zipWith startChecks checkedBox boxChecks someOutside rises setLive noStart liveOutside planOf roundsFrom isRepaired smallerNode largerNode firstFrom areRelated pairAt stepBytes lastRound getLastD nodesLeft thoseFrom someMissing stepsIn placeIn listFrom readBox nodesRead readChecks withBodies withBlock blockOf bodyChecks bodyOf writeChecks nodesChecks written outWritten boxOf flatMap liveChecks liveListed outListed stepChecks stepped nodesStepped listingOf answerOf listingIn firstLine stepLine lastLine field decimal
+unfolding started refusalLine encodeChecks parameterChecks firstMet nodesBuffer joined nodeBlock columnOf nodeCount xorBytes zipWith startChecks checkedBox boxChecks someOutside rises setLive noStart liveOutside planOf roundsFrom isRepaired smallerNode largerNode firstFrom areRelated pairAt stepBytes lastRound getLastD nodesLeft thoseFrom someMissing stepsIn placeIn listFrom readBox nodesRead readChecks withBodies withBlock blockOf bodyChecks bodyOf writeChecks nodesChecks written outWritten boxOf flatMap liveChecks liveListed outListed stepChecks stepped nodesStepped listingOf answerOf listingIn firstLine stepLine lastLine field decimal converted outConverted conversionChecks renumbered newNames newBody nodeOf gradedTable below
 computed =
     (refl, refl)
     & (refl, λ byte. (refl, refl))
@@ -173,6 +187,14 @@ computed =
     & (λ byte out l. (rw l, rw l))
     & (λ out l. (rw l, rw l))
     & (λ out l. (rw l, rw l))
+    & (λ out l. (rw l, rw l, rw l, rw l))
+    & (λ out l. (rw l, rw l, rw l, rw l))
+    & (λ out l. (rw l, rw l, rw l, rw l))
+    & (λ out l. (rw l, rw l, rw l, rw l))
+    & (refl, refl)
+    & (refl, refl)
+    & (refl, refl)
+    & (refl, refl)
     & refl
     & (refl, refl)
     & (refl, refl)

@@ -1,4 +1,5 @@
--- The lettered examples of document 01 and the box that it shows, rows of one table under one statement.
+-- The lettered examples of document 01, the box that it shows, and document 000's examples 2.1 and 3.1, rows of one table under one
+-- statement.
 use mathlib.Core.Path.{_≡_}
 use mathlib.Core.Bool.{not}
 use mathlib.Core.List.{List, [], _∷_, _++_}
@@ -12,6 +13,7 @@ use Rattle.checks.specs.Parameters.{mostL}
 use Rattle.encoding.specs.Encode.{encodeAnswer, encoded}
 use Rattle.planning.specs.Made.{nodesMade, stepsIn}
 use Rattle.boxes.specs.Box.{blockLengthIn, nodeCountIn, bodyChecks, bodyStart, bodyOf}
+use Rattle.conversion.specs.Converted.{oursOf, theirsOf, converted, outConverted}
 use Rattle.repair.specs.declared.Session.{Session}
 use Rattle.repair.specs.Session.{sessionOf, acceptedStart, started, nodeCountOf}
 use Rattle.repair.specs.Boxed.{checkedBox, readBox, nodesRead, written, outWritten}
@@ -45,6 +47,10 @@ pub data Row : Type 0 where
   BoxWrites : List ℕ → List ℕ → List ℕ → Row
   -- a box, and the list that is made of its session's live nodes
   BoxNames : List ℕ → List ℕ → Row
+  -- a box in graded order, and the same box with our numbers
+  Converts : List ℕ → List ℕ → Row
+  -- bytes, the length of a destination, and the number that a conversion gives
+  ConvertGives : List ℕ → ℕ → ℕ → Row
   -- a box, and what the lister prints of it
   Lists : List ℕ → String → Row
 
@@ -94,6 +100,15 @@ Holds (BoxNames box list) =
     (out : List ℕ) → length list ≤ length out
     → (liveListed (checkedBox box .session) out ≡ record { refusal = 0; length = length list; session = checkedBox box .session })
     × (outListed (checkedBox box .session) out ≡ list ++ drop (length list) out)
+-- each becomes the other; the length is returned, and beyond it the destination keeps what was there
+Holds (Converts theirs ours) =
+    (out : List ℕ) → length theirs ≤ length out
+    → (converted theirs out ≡ record { refusal = 0; length = length theirs }) × (outConverted oursOf theirs out ≡ ours ++ drop (length theirs) out)
+    × (converted ours out ≡ record { refusal = 0; length = length theirs }) × (outConverted theirsOf ours out ≡ theirs ++ drop (length theirs) out)
+-- with it comes 0, and nothing is written, in either direction
+Holds (ConvertGives bytes room number) =
+    (out : List ℕ) → length out ≡ room
+    → (converted bytes out ≡ record { refusal = number; length = 0 }) × (outConverted oursOf bytes out ≡ out) × (outConverted theirsOf bytes out ≡ out)
 Holds (Lists box text) = listingOf box ≡ ascii text
 
 -- this is so of every row of a table
@@ -154,7 +169,20 @@ table =
     -- The live nodes of either box's session, listed
     ∷ BoxNames sampleBox (4 ∷ 5 ∷ 7 ∷ [])
     ∷ BoxNames emptyBox []
-    -- It makes the lister print, whole, these six lines
+    -- Document 000's example 2.1 with the object 1, 2, 4: c1 to c7 are 1, 2, 4, 3, 5, 6, 7 (document 02, K1)
+    ∷ Converts (1 ∷ 3 ∷ 1 ∷ 0 ∷ 7 ∷ 0 ∷ 0 ∷ 0 ∷ 1 ∷ 2 ∷ 3 ∷ 4 ∷ 5 ∷ 6 ∷ 7 ∷ 1 ∷ 2 ∷ 4 ∷ 3 ∷ 5 ∷ 6 ∷ 7 ∷ [])
+    (1 ∷ 3 ∷ 1 ∷ 0 ∷ 7 ∷ 0 ∷ 0 ∷ 0 ∷ 1 ∷ 2 ∷ 3 ∷ 4 ∷ 5 ∷ 6 ∷ 7 ∷ 1 ∷ 2 ∷ 3 ∷ 4 ∷ 5 ∷ 6 ∷ 7 ∷ [])
+    -- Its example 3.1, where c3, c5 and c7 are live, is the box above
+    ∷ Converts (1 ∷ 3 ∷ 1 ∷ 0 ∷ 3 ∷ 0 ∷ 0 ∷ 0 ∷ 3 ∷ 5 ∷ 7 ∷ 4 ∷ 5 ∷ 7 ∷ []) sampleBox
+    -- A box of no node stays; a body moves: position 5 of k = 4 is node 3, and position 4 node 8
+    ∷ Converts emptyBox emptyBox
+    ∷ Converts (1 ∷ 4 ∷ 1 ∷ 0 ∷ 2 ∷ 0 ∷ 0 ∷ 0 ∷ 4 ∷ 5 ∷ 40 ∷ 50 ∷ []) (1 ∷ 4 ∷ 1 ∷ 0 ∷ 2 ∷ 0 ∷ 0 ∷ 0 ∷ 3 ∷ 8 ∷ 50 ∷ 40 ∷ [])
+    -- The box above into a byte too few gives 6; a cut box its own 7 before that; a tetrahedron's gives 1, and before 6
+    ∷ ConvertGives sampleBox 13 6
+    ∷ ConvertGives (1 ∷ 3 ∷ 1 ∷ 0 ∷ 3 ∷ 0 ∷ 0 ∷ 0 ∷ 4 ∷ 5 ∷ 7 ∷ 4 ∷ 5 ∷ []) 0 7
+    ∷ ConvertGives (3 ∷ 4 ∷ 1 ∷ 0 ∷ 2 ∷ 0 ∷ 0 ∷ 0 ∷ 4 ∷ 8 ∷ 9 ∷ 6 ∷ []) 12 1
+    ∷ ConvertGives (3 ∷ 4 ∷ 1 ∷ 0 ∷ 2 ∷ 0 ∷ 0 ∷ 0 ∷ 4 ∷ 8 ∷ 9 ∷ 6 ∷ []) 0 1
+    -- The box above makes the lister print, whole, these six lines
     ∷ Lists sampleBox "family 1 k 3 length 1 live 3\n1 1 4 5\n1 2 5 7\n1 3 4 7\n2 6 1 7\nsteps 4 rounds 2 left 0\n"
     -- Weight-two 4 and the tetrahedron with an object whose data block i is 2^(i − 1): each node holds its column
     ∷ Encodes 2 4 1 (1 ∷ 2 ∷ 4 ∷ 8 ∷ []) (1 ∷ 2 ∷ 4 ∷ 8 ∷ 3 ∷ 5 ∷ 9 ∷ 6 ∷ 10 ∷ 12 ∷ [])

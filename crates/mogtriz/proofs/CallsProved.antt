@@ -50,7 +50,7 @@ demand-3-c family k L list e calls M h =
     }
 
 -- what is claimed of a session holds of its C form
-own-agrees : (object : List ℕ) (s : Session) (nodes : List ℕ) (moves : List Move) → OwnClaims object s nodes moves → OwnC object (sessionForC s) nodes moves
+pub own-agrees : (object : List ℕ) (s : Session) (nodes : List ℕ) (moves : List Move) → OwnClaims object s nodes moves → OwnC object (sessionForC s) nodes moves
 unfolding readOut
 own-agrees object s nodes moves o =
     let after = stateAfter called s nodes moves in
@@ -108,10 +108,10 @@ out-agrees s nodes result list M o =
     }
 
 module _ (way : Way) (on : OnTheWayC way) (moves : List Move) where
-  writes : written (startOf way .session) (nodesEncoded way) (way .list) (way .out) .refusal ≡ 0
+  pub writes : written (startOf way .session) (nodesEncoded way) (way .list) (way .out) .refusal ≡ 0
   writes = sym (ap (λ (r : WriteAnswer). r .refusal) (agree-claim (startOf way .session) .write (nodesEncoded way) (way .list) (way .out))) ∙ on .write
 
-  same : boxAwayC way ≡ boxAway way
+  pub same : boxAwayC way ≡ boxAway way
   same = box-agrees way writes
 
   whole : WholeWay way moves

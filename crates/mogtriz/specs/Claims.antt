@@ -12,7 +12,10 @@ use Rattle.families.specs.Families.{familyOf, IsNode, nodeCount, columnOf, node
 use Rattle.encoding.specs.Encode.{encodeAnswer}
 use Rattle.checks.specs.Checks.{firstMet}
 use Rattle.checks.specs.Claims.{InRange}
-use Rattle.boxes.specs.Box.{blockLengthIn, namesIn, bodyChecks, bodyOf}
+use Rattle.boxes.specs.Box.{kIn, blockLengthIn, namesIn, bodyChecks, bodyOf}
+use Rattle.graded.specs.Order.{columnAt}
+use Rattle.conversion.specs.Converted.{oursOf, theirsOf, converted}
+use Rattle.conversion.specs.Claims.{boxLeft, BodiesBy}
 use Rattle.planning.specs.Pairs.{NoPairLeft}
 use Rattle.leftover.specs.Open.{Open, OpenCount}
 use Rattle.repair.specs.declared.Session.{Session}
@@ -281,3 +284,17 @@ pub record WholeWayC (way : Way) (moves : List Move) : Type 0 where
 -- for every family, k, L and object, every start and list that are accepted, every buffer, and every list of calls
 abbrev pub WholeWayCClaim : Type 0
 WholeWayCClaim = (way : Way) → OnTheWayC way → (moves : List Move) → WholeWayC way moves
+
+-- ---- boxes in graded order, for C
+
+-- a box whose bodies are an object's by graded order, converted by mogtriz_from_graded and read by mogtriz_read, into any buffers: whatever
+-- calls are made then, every live block is the object's, and what mogtriz_read_out leaves, where it is accepted, is the object
+abbrev pub GradedWayCClaim : Type 0
+GradedWayCClaim = (object bytes out nodes : List ℕ) → length object ≡ kIn bytes * blockLengthIn bytes → BodiesBy (columnAt (kIn bytes)) object bytes
+    → converted bytes out .refusal ≡ 0 → startedC (readBox (boxLeft oursOf bytes out) nodes) .refusal ≡ 0
+    → (moves : List Move) → OwnC object (startedC (readBox (boxLeft oursOf bytes out) nodes) .session) (nodesRead (boxLeft oursOf bytes out) nodes) moves
+
+-- and the box that is put away, converted by mogtriz_to_graded, has the object's bodies by graded order
+abbrev pub GradedBoxCClaim : Type 0
+GradedBoxCClaim = (way : Way) → OnTheWayC way → (out : List ℕ) → converted (boxAwayC way) out .refusal ≡ 0
+    → BodiesBy (columnAt (kIn (boxAwayC way))) (way .object) (boxLeft theirsOf (boxAwayC way) out)
