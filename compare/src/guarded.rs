@@ -24,8 +24,8 @@ thread_local! {
     static BUFFERS: Cell<u64> = const { Cell::new(0) };
 }
 
-/// Whether the next buffer has its guard before it. Of two in a row one has, and which of them goes by the number's bits: if buffers
-/// took turns, a call that is lent two would always get the same one on the same side.
+/// Whether the next buffer has its guard before it. Of the first and second, the third and fourth and so on, one has; which of the two
+/// goes by the number's bits: if buffers took turns, a call that is lent two would always get the same one on the same side.
 fn guard_comes_first() -> bool {
     let number = BUFFERS.replace(BUFFERS.get() + 1);
     number.count_ones() % 2 == 1

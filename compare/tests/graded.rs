@@ -151,9 +151,14 @@ fn hold(calls: [Conversion; 2], bytes: &[u8], wanted: &[u8]) {
         for convert in calls {
             let mut out = Guarded::filled(room);
             let beyond = out.bytes()[length..].to_vec();
-            let Converted { refusal, length } = convert(lent.bytes(), out.bytes_mut());
+            let given = convert(lent.bytes(), out.bytes_mut());
             let place = || format!("{:02x?} into {room}", &bytes[..length.min(64)]);
-            assert_eq!((refusal, length), (0, wanted.len()), "{}", place());
+            assert_eq!(
+                (given.refusal, given.length),
+                (0, wanted.len()),
+                "{}",
+                place()
+            );
             assert!(out.bytes()[..length] == *wanted, "{}", place());
             assert!(out.bytes()[length..] == beyond, "{}: beyond", place());
             assert!(out.guards_untouched() && lent.untouched(), "{}", place());
@@ -176,7 +181,7 @@ fn every_set_of_nodes_of_few_is_converted_both_ways() {
     assert_eq!(count, 8 * 4 + 128 * 3 + 32_768);
 }
 
-/// The nodes that are left where one or two are lost, and these alone.
+/// The nodes that are left where one or two are lost, and the lost ones alone.
 fn hold_losses(k: usize, len: usize) -> usize {
     let all = simplex(k, len).all_nodes();
     let mut count = 0;

@@ -28,13 +28,15 @@ pub fn body(bytes: &[u8], node: usize) -> Result<&[u8], Refusal> {
 
 /// Converts a box in graded order to our numbers, and gives its length.
 ///
-/// In graded order simplex nodes have other numbers, their positions from 1 to n: they stand by how many data blocks they hold,
-/// and those that hold as many by the rising lists of the blocks' numbers, compared from the front. With k = 3 the nodes at
+/// In graded order simplex nodes have other numbers, their positions from 1 to n: they stand by how many data blocks are in them,
+/// and those with as many by the rising lists of the blocks' numbers, compared from the front. With k = 3 the nodes at
 /// positions 1 to 7 are 1, 2, 4, 3, 5, 6, 7; a smaller k leaves out, of the order for k = 8, the columns of 2^k and above.
 ///
 /// Each position becomes the node there. The numbers rise in the new box too, each body moves with its number, and the rest
-/// stays. The new box is as long as the box handed in; of the destination what lies beyond it is not written. A box does not
-/// tell which numbers it has: the caller has to know.
+/// stays. The new box is as long as the box handed in; of the destination what lies beyond it is not written.
+///
+/// Nothing in a box tells which of the two numberings it has: the caller has to know. Every other call takes a box to have our
+/// numbers; one in graded order, or one that was converted twice the same way, is accepted there, with bodies beside wrong nodes.
 ///
 /// # Errors
 ///

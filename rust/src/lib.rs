@@ -57,7 +57,7 @@
 //! # Boxes with other node numbers
 //!
 //! Others number simplex nodes in graded order. [`from_graded`] converts such a box to our numbers and [`to_graded`] one with our
-//! numbers to theirs; every other call takes boxes with our numbers.
+//! numbers to theirs. Nothing in a box tells which it has: every other call takes a box to have our numbers.
 //!
 //! # Buffers and features
 //!

@@ -1,10 +1,10 @@
 -- The claims of specs/Claims.antt.
 -- Assumes nothing.
-use mathlib.Core.Path.{_≡_, refl, sym, ap, _∙_}
+use mathlib.Core.Path.{_≡_, sym, ap, _∙_}
 use mathlib.Core.Bool.{Bool, true, not}
 use mathlib.Core.List.{List, [], _∷_, _++_}
 use mathlib.Core.Logic.{⊎-elim}
-use Prim.Native.Nat.{ℕ, zero, suc, _+_, _*_, _≤_, _<_}
+use Prim.Native.Nat.{ℕ, _+_, _*_, _≤_, _<_}
 use native.Mathlib.Omega.{arith}
 use borrow.Author.Tests.{lt-ltb, le-ltb, eq-eqb, ne-eqb, ltb-true, ltb-false, eqb-false, not-true, not-false}
 use lib.Dec.{eqb, ltb}
@@ -19,12 +19,12 @@ use Rattle.checks.specs.Claims.{NoneMet}
 use Rattle.checks.specs.Parameters.{parameterChecks}
 use Rattle.checks.proofs.Laws.{none-zero, none-append, exchanged, range-of, parameters-in, parameters-none}
 use Rattle.lists.proofs.PlaceLaws.{rising-distinct, place-of}
-use Rattle.lists.specs.Lists.{rises, listChecks, placeIn}
+use Rattle.lists.specs.Lists.{listChecks, placeIn}
 use Rattle.boxes.specs.Box.{familyIn, kIn, blockLengthIn, heldCountIn, zerosIn, namesIn, bodiesIn, nodeCountIn, boxLength, boxChecks, bodyChecks, bodyPlace, bodyOf}
 use Rattle.boxes.specs.Bodies.{boxOf, withBodies}
 use Rattle.boxes.specs.Claims.{AcceptedBox, BoxClaim, SoundHead, oldBoxChecks, Miscounted, Changed, OrderClaim, BodyClaims, BodyClaim, BoxOfBodyClaim}
 use Rattle.boxes.proofs.Answers.{parametersOf, by-page, by-tests, by-none, body-part}
-use Rattle.boxes.proofs.Laws.{accepted-box, node-inside, list-in, in-kept, rises-rest, rises-above, body-fits, body-at, bodies-there, bodies-same, length-withBodies, fields-of}
+use Rattle.boxes.proofs.Laws.{accepted-box, node-inside, list-in, in-kept, body-fits, body-at, bodies-there, bodies-same, length-withBodies, fields-of}
 
 -- ---- a box
 

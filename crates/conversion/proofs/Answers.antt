@@ -1,11 +1,9 @@
 -- The checks of a conversion, one after the other.
 -- Assumes nothing.
-use mathlib.Core.Path.{_≡_, refl, ap, _∙_}
-use mathlib.Core.Bool.{not}
+use mathlib.Core.Path.{_≡_, refl, _∙_}
 use mathlib.Core.List.{List}
 use Prim.Native.Nat.{ℕ, _≤_, _<_}
 use borrow.Author.Tests.{lt-ltb, le-ltb, ltb-false, eq-eqb, ne-eqb, eqb-true, not-false}
-use lib.Dec.{eqb, ltb}
 use lib.ListN.{length}
 use Rattle.checks.specs.Checks.{firstMet}
 use Rattle.checks.specs.Claims.{NoneMet}

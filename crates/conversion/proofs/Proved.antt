@@ -2,7 +2,7 @@
 -- Assumes nothing.
 use mathlib.Core.Path.{_≡_, refl, sym, ap, ap₂, subst, _∙_}
 use mathlib.Core.List.{List, _++_}
-use Prim.Native.Nat.{ℕ, _≤_, _<_}
+use Prim.Native.Nat.{ℕ, _≤_}
 use native.Mathlib.Decide.{ℕ-discrete}
 use native.Mathlib.Omega.{arith}
 use lib.ListN.{length, take, drop}
@@ -10,17 +10,17 @@ use lib.Seq.{take-at}
 use Rattle.families.specs.Families.{KInRange, IsNode, nodeCount, columnOf}
 use Rattle.families.specs.declared.Family.the-variants.{Simplex}
 use Rattle.checks.specs.Checks.{firstMet}
-use Rattle.boxes.specs.Box.{familyIn, kIn, nodeCountIn, boxChecks}
+use Rattle.boxes.specs.Box.{kIn, nodeCountIn, boxChecks}
 use Rattle.boxes.proofs.Laws.{accepted-box}
 use Rattle.boxes.proofs.Proved.{box-claim}
 use Rattle.graded.specs.Order.{columnAt, nodeAt, positionOf}
 use Rattle.graded.specs.Claims.{NumberClaims}
 use Rattle.graded.proofs.Proved.{number-claims}
 use Rattle.conversion.specs.declared.Converted.{Converted}
-use Rattle.conversion.specs.Converted.{conversionChecks, renumbered, oursOf, theirsOf, converted, outConverted}
+use Rattle.conversion.specs.Converted.{conversionChecks, renumbered, fromGraded, toGraded, converted}
 use Rattle.conversion.specs.Inner.{Renumbers}
-use Rattle.conversion.specs.Claims.{Convertible, AcceptedClaim, boxLeft, ConvertedBox, ConvertedClaim, BackClaim, BodiesBy, ObjectClaim, RefusedClaim}
-use Rattle.conversion.proofs.Answers.{by-none}
+use Rattle.conversion.specs.Claims.{AcceptedClaim, boxLeft, ConvertedBox, ConvertedClaim, BackClaim, BodiesBy, ObjectClaim, RefusalClaim}
+use Rattle.conversion.proofs.Answers.{by-box, by-family, by-room, by-none}
 use Rattle.conversion.proofs.Rules.{converted-refused, converted-served, accepts, k-range, count-is, nodes-rule, positions-rule}
 use Rattle.conversion.proofs.Laws.{new-size}
 use Rattle.conversion.proofs.NewBox.{accepted, family-same, k-same, head-same, held-new, body-new, turned-back, object-moved}
@@ -33,8 +33,8 @@ module _ (bytes out : List ℕ) where
   number = go (ℕ-discrete (firstMet (conversionChecks bytes (length out))) 0)
     where
       go : Dec (firstMet (conversionChecks bytes (length out)) ≡ 0) → converted bytes out .refusal ≡ firstMet (conversionChecks bytes (length out))
-      go (yes e) = ap (λ (c : Converted). c .refusal) (converted-served bytes out e oursOf .0) ∙ sym e
-      go (no n) = ap (λ (c : Converted). c .refusal) (converted-refused bytes out oursOf n .0)
+      go (yes e) = ap (λ (c : Converted). c .refusal) (converted-served bytes out e fromGraded .0) ∙ sym e
+      go (no n) = ap (λ (c : Converted). c .refusal) (converted-refused bytes out fromGraded n .0)
 
   passes : converted bytes out .refusal ≡ 0 → firstMet (conversionChecks bytes (length out)) ≡ 0
   passes h = sym number ∙ h
@@ -45,10 +45,15 @@ accepted-claim bytes out = (
   (λ c. number bytes out ∙ by-none bytes (length out) (box-claim bytes .1 (c .box)) (c .simplex) (c .fits)),
 )
 
-pub refused-claim : RefusedClaim
-refused-claim to bytes out n =
-    let r = converted-refused bytes out to (λ e. n (number bytes out ∙ e)) in
-    (r .0 ∙ ap (λ (m : ℕ). record { refusal = m; length = 0 }) (sym (number bytes out)), r .1)
+pub refusal-claim : RefusalClaim
+refusal-claim bytes out =
+    record {
+      box = λ n. number bytes out ∙ by-box bytes (length out) n;
+      family = λ a n. number bytes out ∙ by-family bytes (length out) (box-claim bytes .1 a) n;
+      room = λ a f l. number bytes out ∙ by-room bytes (length out) (box-claim bytes .1 a) f l;
+      zero = λ n. ap (λ (c : Converted). c .length) (converted-refused bytes out fromGraded (λ e. n (number bytes out ∙ e)) .0);
+      kept = λ to n. converted-refused bytes out to (λ e. n (number bytes out ∙ e)) .1;
+    }
 
 -- ---- a conversion by a rule and the one that undoes it
 
@@ -110,8 +115,8 @@ module _ (bytes out : List ℕ) (h : converted bytes out .refusal ≡ 0) where
 pub converted-claim : ConvertedClaim
 converted-claim =
     record {
-      ours = λ bytes out h. converted-box bytes out h oursOf (nodeAt (kIn bytes)) refl (nodes bytes out h);
-      theirs = λ bytes out h. converted-box bytes out h theirsOf (positionOf (kIn bytes)) refl (positions bytes out h);
+      ours = λ bytes out h. converted-box bytes out h fromGraded (nodeAt (kIn bytes)) refl (nodes bytes out h);
+      theirs = λ bytes out h. converted-box bytes out h toGraded (positionOf (kIn bytes)) refl (positions bytes out h);
     }
 
 -- ---- there and back

@@ -27,7 +27,7 @@ use Rattle.planning.proofs.CarryLaws.{steps-back}
 use Rattle.boxes.specs.Box.{blockLengthIn, nodeCountIn, boxChecks, bodyChecks, bodyOf}
 use Rattle.boxes.specs.Bodies.{boxOf, withBodies}
 use Rattle.graded.specs.Order.{gradedTable, below}
-use Rattle.conversion.specs.Converted.{conversionChecks, newNames, newBody, renumbered, oursOf, theirsOf, converted, outConverted}
+use Rattle.conversion.specs.Converted.{conversionChecks, newNames, newBody, renumbered, fromGraded, toGraded, converted, outConverted}
 use Rattle.conversion.proofs.Rules.{converted-refused}
 use Rattle.repair.specs.declared.Session.{Session}
 use Rattle.repair.specs.Session.{sessionOf, acceptedStart, started, startChecks, nodeCountOf, noStart, nodesChecks}
@@ -122,8 +122,8 @@ Computed (BoxNames box list) =
     × (outListed (checkedBox box .session) out ≡ list ++ drop (length list) out)
 Computed (Converts theirs ours) =
     (out : List ℕ) → ltb (length out) (length theirs) ≡ false
-    → (converted theirs out ≡ record { refusal = 0; length = length theirs }) × (outConverted oursOf theirs out ≡ ours ++ drop (length theirs) out)
-    × (converted ours out ≡ record { refusal = 0; length = length theirs }) × (outConverted theirsOf ours out ≡ theirs ++ drop (length theirs) out)
+    → (converted theirs out ≡ record { refusal = 0; length = length theirs }) × (outConverted fromGraded theirs out ≡ ours ++ drop (length theirs) out)
+    × (converted ours out ≡ record { refusal = 0; length = length ours }) × (outConverted toGraded ours out ≡ theirs ++ drop (length theirs) out)
 Computed (ConvertGives bytes room number) = (firstMet (conversionChecks bytes room) ≡ number) × (eqb number 0 ≡ false)
 Computed (Lists box text) = Holds (Lists box text)
 
@@ -146,8 +146,8 @@ holds (Converts theirs ours) c = λ out h. c out (le-ltb (length out) (length th
 holds (ConvertGives bytes room number) (is, some) = λ out e.
     let given : firstMet (conversionChecks bytes (length out)) ≡ number = ap (λ (m : ℕ). firstMet (conversionChecks bytes m)) e ∙ is in
     let met : firstMet (conversionChecks bytes (length out)) ≡ 0 → ⊥ = λ z. eqb-false number 0 some (sym given ∙ z) in
-    let r = converted-refused bytes out oursOf met in
-    (r .0 ∙ ap (λ (m : ℕ). record { refusal = m; length = 0 }) given, r .1, converted-refused bytes out theirsOf met .1)
+    let r = converted-refused bytes out fromGraded met in
+    (r .0 ∙ ap (λ (m : ℕ). record { refusal = m; length = 0 }) given, r .1, converted-refused bytes out toGraded met .1)
 holds (Lists box text) c = c
 
 all-hold : (rows : List Row) → Every Computed rows → Every Holds rows

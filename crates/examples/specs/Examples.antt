@@ -13,7 +13,7 @@ use Rattle.checks.specs.Parameters.{mostL}
 use Rattle.encoding.specs.Encode.{encodeAnswer, encoded}
 use Rattle.planning.specs.Made.{nodesMade, stepsIn}
 use Rattle.boxes.specs.Box.{blockLengthIn, nodeCountIn, bodyChecks, bodyStart, bodyOf}
-use Rattle.conversion.specs.Converted.{oursOf, theirsOf, converted, outConverted}
+use Rattle.conversion.specs.Converted.{fromGraded, toGraded, converted, outConverted}
 use Rattle.repair.specs.declared.Session.{Session}
 use Rattle.repair.specs.Session.{sessionOf, acceptedStart, started, nodeCountOf}
 use Rattle.repair.specs.Boxed.{checkedBox, readBox, nodesRead, written, outWritten}
@@ -103,12 +103,12 @@ Holds (BoxNames box list) =
 -- each becomes the other; the length is returned, and beyond it the destination keeps what was there
 Holds (Converts theirs ours) =
     (out : List ℕ) → length theirs ≤ length out
-    → (converted theirs out ≡ record { refusal = 0; length = length theirs }) × (outConverted oursOf theirs out ≡ ours ++ drop (length theirs) out)
-    × (converted ours out ≡ record { refusal = 0; length = length theirs }) × (outConverted theirsOf ours out ≡ theirs ++ drop (length theirs) out)
+    → (converted theirs out ≡ record { refusal = 0; length = length theirs }) × (outConverted fromGraded theirs out ≡ ours ++ drop (length theirs) out)
+    × (converted ours out ≡ record { refusal = 0; length = length ours }) × (outConverted toGraded ours out ≡ theirs ++ drop (length theirs) out)
 -- with it comes 0, and nothing is written, in either direction
 Holds (ConvertGives bytes room number) =
     (out : List ℕ) → length out ≡ room
-    → (converted bytes out ≡ record { refusal = number; length = 0 }) × (outConverted oursOf bytes out ≡ out) × (outConverted theirsOf bytes out ≡ out)
+    → (converted bytes out ≡ record { refusal = number; length = 0 }) × (outConverted fromGraded bytes out ≡ out) × (outConverted toGraded bytes out ≡ out)
 Holds (Lists box text) = listingOf box ≡ ascii text
 
 -- this is so of every row of a table
@@ -174,9 +174,10 @@ table =
     (1 ∷ 3 ∷ 1 ∷ 0 ∷ 7 ∷ 0 ∷ 0 ∷ 0 ∷ 1 ∷ 2 ∷ 3 ∷ 4 ∷ 5 ∷ 6 ∷ 7 ∷ 1 ∷ 2 ∷ 3 ∷ 4 ∷ 5 ∷ 6 ∷ 7 ∷ [])
     -- Its example 3.1, where c3, c5 and c7 are live, is the box above
     ∷ Converts (1 ∷ 3 ∷ 1 ∷ 0 ∷ 3 ∷ 0 ∷ 0 ∷ 0 ∷ 3 ∷ 5 ∷ 7 ∷ 4 ∷ 5 ∷ 7 ∷ []) sampleBox
-    -- A box of no node stays; a body moves: position 5 of k = 4 is node 3, and position 4 node 8
+    -- A box of no node stays. Bodies move: positions 4, 5 and 8 of k = 4 are nodes 8, 3 and 6; were lists compared from the back,
+    -- position 8 would be node 9
     ∷ Converts emptyBox emptyBox
-    ∷ Converts (1 ∷ 4 ∷ 1 ∷ 0 ∷ 2 ∷ 0 ∷ 0 ∷ 0 ∷ 4 ∷ 5 ∷ 40 ∷ 50 ∷ []) (1 ∷ 4 ∷ 1 ∷ 0 ∷ 2 ∷ 0 ∷ 0 ∷ 0 ∷ 3 ∷ 8 ∷ 50 ∷ 40 ∷ [])
+    ∷ Converts (1 ∷ 4 ∷ 1 ∷ 0 ∷ 3 ∷ 0 ∷ 0 ∷ 0 ∷ 4 ∷ 5 ∷ 8 ∷ 40 ∷ 50 ∷ 80 ∷ []) (1 ∷ 4 ∷ 1 ∷ 0 ∷ 3 ∷ 0 ∷ 0 ∷ 0 ∷ 3 ∷ 6 ∷ 8 ∷ 50 ∷ 80 ∷ 40 ∷ [])
     -- The box above into a byte too few gives 6; a cut box its own 7 before that; a tetrahedron's gives 1, and before 6
     ∷ ConvertGives sampleBox 13 6
     ∷ ConvertGives (1 ∷ 3 ∷ 1 ∷ 0 ∷ 3 ∷ 0 ∷ 0 ∷ 0 ∷ 4 ∷ 5 ∷ 7 ∷ 4 ∷ 5 ∷ []) 0 7

@@ -1,8 +1,7 @@
 -- What specs/Claims.antt says of graded order.
 -- Assumes nothing.
-use mathlib.Core.Path.{_≡_, refl, sym, ap, _∙_}
-use mathlib.Core.Bool.{true}
-use Prim.Native.Nat.{ℕ, suc, _-_, _^_, _≤_, _<_}
+use mathlib.Core.Path.{_≡_, sym, ap, _∙_}
+use Prim.Native.Nat.{ℕ, suc, _-_, _≤_}
 use native.Mathlib.Omega.{arith}
 use borrow.Author.Tests.{ltb-true}
 use lib.ListN.{length, getD}
@@ -12,7 +11,7 @@ use Rattle.families.specs.declared.Family.the-variants.{Simplex}
 use Rattle.families.proofs.Laws.{simplex-below}
 use Rattle.lists.specs.Lists.{placeIn}
 use Rattle.lists.proofs.PlaceLaws.{is-at, place-of}
-use Rattle.graded.specs.Order.{standsBefore, gradedTable, columnsLeft, columnAt, nodeAt, positionOf}
+use Rattle.graded.specs.Order.{gradedTable, columnsLeft, columnAt, nodeAt}
 use Rattle.graded.specs.Claims.{OnePlace, TableClaim, NumberClaims, NumberClaim}
 use Rattle.graded.proofs.OrderLaws.{sorted, sorted-at}
 use Rattle.graded.proofs.TableLaws.{table-order, table-distinct, table-has, table-size}

@@ -1,16 +1,15 @@
 -- The walk over the table that leaves out what is at a bound or above, and the array of what is left.
 -- Assumes nothing.
-use mathlib.Core.Path.{_≡_, refl, sym, ap, _∙_}
+use mathlib.Core.Path.{_≡_, refl, ap, _∙_}
 use mathlib.Core.Bool.{Bool, true, false, cond}
 use mathlib.Core.List.{List, [], _∷_, _++_, append-nil}
-use Prim.Native.Nat.{ℕ, zero, suc, _+_, _-_, _^_, _≤_, _<_}
+use Prim.Native.Nat.{ℕ, suc, _+_, _-_, _^_, _≤_, _<_}
 use native.Mathlib.Numerals.{add-one}
 use native.Mathlib.Omega.{arith}
 use borrow.Author.Tests.{lt-ltb, le-ltb}
 use lib.Dec.{ltb}
-use lib.ListN.{length, getD, set, take, replicate, length-take, length-append, List·getD-append}
-use lib.Seq.{take-suc, take-all, length-take-le}
-use lib.Pow.{pow-pos}
+use lib.ListN.{length, getD, set, take, replicate, length-take, List·getD-append}
+use lib.Seq.{take-suc, take-all}
 use Rattle.families.specs.Families.{KInRange}
 use Rattle.families.specs.declared.Family.the-variants.{Simplex}
 use Rattle.lists.proofs.Walks.{padded, pad-more}

@@ -276,7 +276,7 @@ fn table() -> [u8; 255]
     COLUMNS
 }
 
-// The node at each position of k = 8, where no column is left out; 0 at 0.
+// The node at each position of k = 8, where no column is left out and so none need be looked at; 0 at 0.
 fn all_nodes(columns: [u8; 255]) -> [u8; 256]
     ensures { λ r. ⌜ r ≡ 0 ∷ columns ⌝ }
 {
@@ -308,7 +308,7 @@ fn nodes_below(columns: [u8; 255], bound: usize) -> [u8; 256]
     nodes
 }
 
-// The node at each position of k; 0 at 0 and after the last.
+// The node at each position of k, whose number is its column; 0 at 0 and after the last.
 pub fn nodes(k: usize) -> [u8; 256]
     requires { ⌜ KInRange Simplex k ⌝ }
     ensures { λ r. ⌜ r ≡ 0 ∷ columnsLeft k ++ replicate (256 - 2 ^ k) 0 ⌝ }
@@ -319,7 +319,8 @@ pub fn nodes(k: usize) -> [u8; 256]
     nodes_below(table(), base::power(k))
 }
 
-// The position of each node of k; 0 for other numbers.
+// The position of each node of k; 0 for other numbers. It goes from the last position to the first, as the places of a list are laid
+// down.
 pub fn positions(k: usize) -> [u8; 256]
     requires { ⌜ KInRange Simplex k ⌝ }
     ensures { λ r. ⌜ r ≡ placesOf (columnsLeft k) ⌝ }

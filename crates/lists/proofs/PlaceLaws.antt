@@ -1,21 +1,19 @@
 -- Places in a list: of a number that is there, in a list where no number stands twice, and of every number in an array.
 -- Assumes nothing.
 use mathlib.Core.Path.{_≡_, refl, sym, ap, _∙_}
-use mathlib.Core.Bool.{Bool, true, false, cond, not, _&&_, _||_, false≢true, true≢false}
+use mathlib.Core.Bool.{Bool, true, false, cond, not, _&&_, _||_, false≢true}
 use mathlib.Core.List.{List, [], _∷_}
-use mathlib.Core.Logic.{⊎-elim}
 use Prim.Native.Nat.{ℕ, zero, suc, _+_, _≤_, _<_}
 use native.Mathlib.Nat.{zero-add}
-use native.Mathlib.Numerals.{add-one}
 use native.Mathlib.Omega.{arith}
 use borrow.Author.Tests.{ltb-true, lt-ltb, eqb-true, eqb-false, eq-eqb, ne-eqb, not-true}
-use lib.Dec.{ltb, eqb}
-use lib.ListN.{length, getD, set, take, drop, length-set, drop-of-length-le, replicate, length-replicate, getD-replicate}
+use lib.Dec.{eqb}
+use lib.ListN.{length, getD, set, take, drop, length-set, drop-of-length-le, replicate, getD-replicate}
 use lib.Seq.{drop-cons, ext-getD, getD-set-same, getD-set-other}
 use Rattle.base.specs.Ranges.{thoseFrom}
 use Rattle.base.specs.Inner.{listFrom}
 use Rattle.base.proofs.Tests.{and-left, and-right, not-both, is-false}
-use Rattle.base.proofs.RangeLaws.{same-from, count-one, length-listFrom, getD-listFrom}
+use Rattle.base.proofs.RangeLaws.{count-one, length-listFrom, getD-listFrom}
 use Rattle.lists.specs.Lists.{someOutside, rises, placeIn, isIn}
 use Rattle.lists.specs.Inner.{placesOf}
 use Rattle.lists.proofs.Laws.{has-cons, outside-both, rises-both}
@@ -33,7 +31,7 @@ place-there (x ∷ list) j h = go (eqb x j) refl (place-there list j) h
     go true e later l = eqb-true x j e
     go false e later l = later (omega arith)
 
--- where it stands, its place or a later one
+-- wherever it stands, its place is there or before
 pub place-before : (list : List ℕ) (j i : ℕ) → i < length list → getD list i 0 ≡ j → placeIn list j ≤ i
 unfolding placeIn
 place-before [] j i h e = absurd (omega arith)

@@ -1,6 +1,6 @@
 -- The claims of specs/Claims.antt about boxes in graded order: what a conversion promises meets the whole way of an object.
 -- Assumes nothing.
-use mathlib.Core.Path.{_≡_, refl, sym, ap, ap₂, subst, _∙_}
+use mathlib.Core.Path.{_≡_, sym, ap, ap₂, subst, _∙_}
 use mathlib.Core.List.{List, []}
 use Prim.Native.Nat.{ℕ, _+_, _*_, _<_}
 use native.Mathlib.Omega.{arith}
@@ -11,7 +11,7 @@ use Rattle.families.specs.declared.Family.the-variants.{Simplex}
 use Rattle.encoding.specs.Matrix.{nodeBlock}
 use Rattle.boxes.specs.Box.{familyIn, kIn, blockLengthIn, namesIn}
 use Rattle.graded.specs.Order.{columnAt}
-use Rattle.conversion.specs.Converted.{oursOf, theirsOf, converted}
+use Rattle.conversion.specs.Converted.{fromGraded, converted}
 use Rattle.conversion.specs.Claims.{boxLeft, BodiesBy}
 use Rattle.conversion.proofs.Proved.{accepted-claim, converted-claim, object-claim}
 use Rattle.repair.specs.declared.Session.{Session}
@@ -23,7 +23,7 @@ use Rattle.repair.proofs.RoundTripLaws.{session-read}
 use Rattle.repair.proofs.RepairsProved.{own-claim}
 use Rattle.repair.proofs.WholeWayProved.{own-box-claim, fits-claim}
 use Rattle.mogtriz.specs.Sessions.{sessionForC}
-use Rattle.mogtriz.specs.Claims.{OwnC, boxAwayC, OnTheWayC, GradedWayCClaim, GradedBoxCClaim}
+use Rattle.mogtriz.specs.Claims.{OwnC, boxAwayC, GradedWayCClaim, GradedBoxCClaim}
 use Rattle.mogtriz.proofs.CallsProved.{own-agrees, same, writes}
 
 -- an object's bodies in a simplex box, by the family's own columns
@@ -38,10 +38,10 @@ module _ (object bytes : List ℕ) (f : familyIn bytes ≡ 1) where
   own-simplex h i l = h i l ∙ by-family (getD (namesIn bytes) i 0)
 
 module _ (object bytes out nodes : List ℕ) (size : length object ≡ kIn bytes * blockLengthIn bytes) (bodies : BodiesBy (columnAt (kIn bytes)) object bytes)
-    (h : converted bytes out .refusal ≡ 0) (g : readBox (boxLeft oursOf bytes out) nodes .refusal ≡ 0)
+    (h : converted bytes out .refusal ≡ 0) (g : readBox (boxLeft fromGraded bytes out) nodes .refusal ≡ 0)
   where
     abbrev box : List ℕ
-    box = boxLeft oursOf bytes out
+    box = boxLeft fromGraded bytes out
 
     -- the first 8 bytes are those of the box that came
     field : (i : ℕ) → i < 8 → getD box i 0 ≡ getD bytes i 0

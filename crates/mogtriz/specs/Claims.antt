@@ -14,7 +14,7 @@ use Rattle.checks.specs.Checks.{firstMet}
 use Rattle.checks.specs.Claims.{InRange}
 use Rattle.boxes.specs.Box.{kIn, blockLengthIn, namesIn, bodyChecks, bodyOf}
 use Rattle.graded.specs.Order.{columnAt}
-use Rattle.conversion.specs.Converted.{oursOf, theirsOf, converted}
+use Rattle.conversion.specs.Converted.{fromGraded, toGraded, converted}
 use Rattle.conversion.specs.Claims.{boxLeft, BodiesBy}
 use Rattle.planning.specs.Pairs.{NoPairLeft}
 use Rattle.leftover.specs.Open.{Open, OpenCount}
@@ -291,10 +291,10 @@ WholeWayCClaim = (way : Way) → OnTheWayC way → (moves : List Move) → Whole
 -- calls are made then, every live block is the object's, and what mogtriz_read_out leaves, where it is accepted, is the object
 abbrev pub GradedWayCClaim : Type 0
 GradedWayCClaim = (object bytes out nodes : List ℕ) → length object ≡ kIn bytes * blockLengthIn bytes → BodiesBy (columnAt (kIn bytes)) object bytes
-    → converted bytes out .refusal ≡ 0 → startedC (readBox (boxLeft oursOf bytes out) nodes) .refusal ≡ 0
-    → (moves : List Move) → OwnC object (startedC (readBox (boxLeft oursOf bytes out) nodes) .session) (nodesRead (boxLeft oursOf bytes out) nodes) moves
+    → converted bytes out .refusal ≡ 0 → startedC (readBox (boxLeft fromGraded bytes out) nodes) .refusal ≡ 0
+    → (moves : List Move) → OwnC object (startedC (readBox (boxLeft fromGraded bytes out) nodes) .session) (nodesRead (boxLeft fromGraded bytes out) nodes) moves
 
 -- and the box that is put away, converted by mogtriz_to_graded, has the object's bodies by graded order
 abbrev pub GradedBoxCClaim : Type 0
 GradedBoxCClaim = (way : Way) → OnTheWayC way → (out : List ℕ) → converted (boxAwayC way) out .refusal ≡ 0
-    → BodiesBy (columnAt (kIn (boxAwayC way))) (way .object) (boxLeft theirsOf (boxAwayC way) out)
+    → BodiesBy (columnAt (kIn (boxAwayC way))) (way .object) (boxLeft toGraded (boxAwayC way) out)

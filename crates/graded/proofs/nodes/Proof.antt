@@ -1,21 +1,21 @@
 -- `graded::nodes` meets its contract: for k = 8 nothing is left out, and for a smaller k what is not below 2^k.
 -- Assumes nothing.
-use mathlib.Core.Path.{_≡_, refl, sym, ap, ap₂, _∙_}
-use mathlib.Core.List.{List, _∷_, _++_}
+use mathlib.Core.Path.{_≡_, sym, ap, _∙_}
+use mathlib.Core.List.{List, _∷_, _++_, append-nil}
 use Prim.Native.Nat.{ℕ, _-_, _^_}
 use native.Mathlib.Omega.{arith}
 use lib.ListN.{length, replicate}
 use lib.Pow.{pow-pos}
 use borrow.Author.Needs.{needs}
 use Rattle.graded.specs.Order.{gradedTable, below, columnsLeft}
+use Rattle.graded.proofs.TableLaws.{all-left}
 use Rattle.graded.proofs.NumberLaws.{left-size}
 use Rattle.graded.proofs.nodes.Statement.{statement}
 use Rattle.graded.proofs.nodes.Tie as tie
 
 -- no column is left out
 all : 0 ∷ gradedTable ≡ 0 ∷ columnsLeft 8 ++ replicate (256 - 2 ^ 8) 0
-unfolding gradedTable below
-all = refl
+all = ap (λ (s : List ℕ). 0 ∷ s) (sym all-left ∙ sym (append-nil (columnsLeft 8)))
 
 returns : tie.Need-returns
 returns c =

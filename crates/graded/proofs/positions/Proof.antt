@@ -1,12 +1,12 @@
 -- `graded::positions` meets its contract: before each turn the array has the places of what stands in the list from place p on.
 -- Assumes nothing.
-use mathlib.Core.Path.{_≡_, refl, sym, ap, _∙_}
+use mathlib.Core.Path.{_≡_, ap, _∙_}
 use mathlib.Core.List.{List}
 use Prim.Native.Nat.{ℕ, suc, _-_, _^_, _≤_, _<_}
 use native.Mathlib.Omega.{arith}
 use native.Mathlib.Nat.{mod-eq-of-lt}
 use lib.Pow.{pow-mono, pow-pos}
-use lib.ListN.{length, getD, set}
+use lib.ListN.{getD, set}
 use borrow.Author.Needs.{needs}
 use Rattle.lists.proofs.PlaceLaws.{placesFrom, places-none, places-more, places-all}
 use Rattle.graded.specs.Order.{columnsLeft}

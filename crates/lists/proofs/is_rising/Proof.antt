@@ -1,8 +1,8 @@
 -- `lists::is_rising` meets its contract: before each turn the list rises exactly when no fall was seen and what is left of it rises.
 -- Assumes nothing.
 use mathlib.Core.Path.{_≡_, refl, sym, ap, _∙_}
-use mathlib.Core.Bool.{Bool, true, false, _&&_, and-true, and-false}
-use Prim.Native.Nat.{ℕ, _+_, _-_, _≤_}
+use mathlib.Core.Bool.{Bool, _&&_, and-true, and-false}
+use Prim.Native.Nat.{_+_, _-_, _≤_}
 use denote.Ref.{now}
 use lib.ListN.{length, getD, drop}
 use native.Mathlib.Omega.{arith}
