@@ -264,21 +264,22 @@ MOGTRIZ_CALL mogtriz_part mogtriz_body(const uint8_t *box, size_t box_len, size_
  * of the blocks' numbers, compared from the front. A node's number there is its position, from 1 to n.
  * With k 3 the nodes at positions 1 to 7 are 1 2 4 3 5 6 7; a smaller k leaves out, of the order for k 8, the columns of 2^k and above.
  * A box in graded order is as said above, with positions for its node numbers. Nothing in a box tells which of the two numberings it
- * has: the caller has to know. Every other call takes a box to have our numbers; one in graded order, or one that was converted twice
- * the same way, is accepted there, with bodies beside wrong nodes.
+ * has: the caller has to know. Every call but mogtriz_from_graded takes a box to have our numbers; one in graded order, or one that was converted twice
+ * the same way, is accepted there too, and its bodies can stand beside wrong nodes. Some numbers are the same in both: all with k 2.
  */
 
 /*
  * A box in graded order converted to our numbers: each position becomes the node there. The numbers rise in the new box too, each body
  * moves with its number, and the rest stays. It is as long as the box handed in, `length` says so, and nothing beyond it is written.
- * `out` is another buffer: no box is converted in place.
+ * `out` is another buffer: no box is converted in place. With k 3, nodes 3 and 4 change places: a box of both keeps its list, and its
+ * two bodies are exchanged.
  * Gives 0 or: the checks of a box, 1 where its family is 2 or 3, 6 where the destination is shorter than the box.
  */
 MOGTRIZ_CALL mogtriz_converted mogtriz_from_graded(const uint8_t *box, size_t box_len, uint8_t *out, size_t out_len);
 
 /*
- * The reverse: a box with our numbers converted to graded order, each node becoming its position. It gives what mogtriz_from_graded
- * gives, and a box that is converted there and back, either way round, has the same bytes.
+ * The reverse: a box with our numbers converted to graded order, each node becoming its position. Its answers are those of
+ * mogtriz_from_graded, in the same order, and a box that is converted there and back, either way round, has the same bytes.
  */
 MOGTRIZ_CALL mogtriz_converted mogtriz_to_graded(const uint8_t *box, size_t box_len, uint8_t *out, size_t out_len);
 

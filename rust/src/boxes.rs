@@ -35,8 +35,9 @@ pub fn body(bytes: &[u8], node: usize) -> Result<&[u8], Refusal> {
 /// Each position becomes the node there. The numbers rise in the new box too, each body moves with its number, and the rest
 /// stays. The new box is as long as the box handed in; of the destination what lies beyond it is not written.
 ///
-/// Nothing in a box tells which of the two numberings it has: the caller has to know. Every other call takes a box to have our
-/// numbers; one in graded order, or one that was converted twice the same way, is accepted there, with bodies beside wrong nodes.
+/// Nothing in a box tells which of the two numberings it has: the caller has to know. Every call but this one takes a box to have our
+/// numbers; one in graded order, or one that was converted twice the same way, is accepted there too, and its bodies can stand
+/// beside wrong nodes.
 ///
 /// # Errors
 ///
