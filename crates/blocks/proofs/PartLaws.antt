@@ -75,7 +75,7 @@ fill-part r t i at n h k l =
     rw (take-append-le at (take i r) (drop i t) (omega arith), take-take at i r h, drop-drop n at (filled r t i), drop-past (take i r) t (at + n) i e k, take-add at n r, append-assoc)
 
 -- a byte is a part
-set-byte : (s : List ℕ) (i v : ℕ) → i < length s → set s i v ≡ putMid i 1 s (v ∷ [])
+pub set-byte : (s : List ℕ) (i v : ℕ) → i < length s → set s i v ≡ putMid i 1 s (v ∷ [])
 set-byte s i v h = set-split s i v h ∙ rw (drop-drop 1 i s, add-one)
 
 mid-byte : (s : List ℕ) (i : ℕ) → i < length s → midOf i 1 s ≡ getD s i 0 ∷ []

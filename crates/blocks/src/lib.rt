@@ -8,7 +8,7 @@ ghost use Rattle.blocks.specs.Blocks.{xorBytes, blockOf, withBlock};
 ghost use Rattle.blocks.specs.Inner.{InBuffer, BlocksIn};
 
 // dst becomes src, of the same length, byte by byte: a copy shorter than a chunk.
-fn copy_by_bytes(dst: &mut [u8], src: &[u8])
+pub fn copy_by_bytes(dst: &mut [u8], src: &[u8])
     requires { ⌜ length (now src) ≡ length (now dst) ⌝ }
     ensures { λ _. ⌜ now (dst .exit) ≡ now (src .entry) ⌝ }
 {

@@ -1,0 +1,5 @@
+pub mod Places
+pub mod TransposeLaws
+pub mod NearLaws
+pub mod TileLaws
+pub mod MatrixLaws

@@ -1,0 +1,25 @@
+-- `transposition::transpose_wide` meets its contract: tiles that span some of the rows suit the matrix.
+-- Assumes nothing.
+use borrow.Author.Needs.{needs}
+use Rattle.transposition.proofs.MatrixLaws.{suits-wide}
+use Rattle.transposition.proofs.transpose_wide.Statement.{statement}
+use Rattle.transposition.proofs.transpose_wide.Tie as tie
+
+by-tiles-requires : tie.Need-by-tiles-requires
+by-tiles-requires c κs =
+    let e : tie.Start = search in
+    let s : tie.After-tile-span = search in
+    let i : tie.Else1 = search in
+    (e .pre, suits-wide (e .args .rows) (e .args .columns) (s .tile-span .result) (s .tile-span .ensures) (i .if1 .left))
+
+pub transpose-wide-spec : {M : Type 1} → statement M
+transpose-wide-spec =
+    tie.close
+    (tie.spec
+    (λ c κs. search needs)
+    (λ c κs. search needs)
+    (λ c. search needs)
+    (λ c. search needs)
+    by-tiles-requires
+    (λ c. search needs)
+    (λ c. search needs))
