@@ -1,15 +1,16 @@
 -- The claims of specs/Claims.antt.
 -- Assumes nothing.
 use mathlib.Core.Path.{_≡_}
-use Prim.Native.Nat.{suc, _-_}
+use Prim.Native.Nat.{suc, _-_, _*_}
 use native.Mathlib.Omega.{arith}
 use lib.ListN.{length}
-use Rattle.families.specs.Families.{nodeCount}
+use Rattle.families.specs.Families.{familyOf, nodeCount}
 use Rattle.checks.proofs.Laws.{parameters-in}
 use Rattle.encoding.specs.Matrix.{nodesBuffer}
-use Rattle.encoding.specs.Encode.{encodeAnswer}
+use Rattle.encoding.specs.Encode.{encodeChecks, encodeAnswer}
 use Rattle.encoding.specs.Claims.{MatrixClaim, EncodeClaim}
-use Rattle.encoding.proofs.Answers.{by-none, accepted-call}
+use Rattle.checks.proofs.BufferLaws.{by-none}
+use Rattle.encoding.proofs.Answers.{accepted-call}
 use Rattle.encoding.proofs.Linear.{node-block-unit, node-block-xor}
 use Rattle.encoding.proofs.Nodes.{length-nodeBlocks, buffer-block, related-block, related-zero}
 
@@ -26,8 +27,8 @@ matrix-claim f k L object h =
     }
 
 pub encode-claim : EncodeClaim
-unfolding encodeAnswer
+unfolding encodeAnswer encodeChecks
 encode-claim family k L object nodes = (
   (λ e. let a = accepted-call family k L object nodes e in (a .range, a .object-size, a .nodes-size)),
-  (λ p. by-none family k L (length object) (length nodes) (parameters-in family k L (p .0)) (p .1) (p .2)),
+  (λ p. by-none family k L (length object) (k * L) (length nodes) (nodeCount (familyOf family) k * L) (parameters-in family k L (p .0)) (p .1) (p .2)),
 )

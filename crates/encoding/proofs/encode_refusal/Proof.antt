@@ -4,7 +4,9 @@ use mathlib.Core.Path.{_≡_, sym, _∙_}
 use Rattle.checks.specs.Checks.{firstMet}
 use Rattle.checks.specs.Parameters.{parameterChecks}
 use Rattle.checks.proofs.Laws.{in-range}
-use Rattle.encoding.proofs.Answers.{object-small, nodes-small, by-parameters, by-object, by-nodes, by-none}
+use Rattle.checks.proofs.BufferLaws.{by-parameters, by-first, by-second, by-none}
+use Rattle.encoding.specs.Encode.{encodeChecks}
+use Rattle.encoding.proofs.Answers.{object-small, nodes-small}
 use borrow.Author.Needs.{needs}
 use native.Mathlib.Omega.{arith}
 use Rattle.encoding.proofs.encode_refusal.Statement.{statement}
@@ -15,18 +17,20 @@ passed : (c : tie.Else1) → firstMet (parameterChecks (c .before .before .args 
 passed c = sym (c .before .parameter-refusal .ensures) ∙ c .if1 .left
 
 returns : tie.Need-returns
+unfolding encodeChecks
 returns c =
     let g = c .before .before .args in
     let e = c .before .parameter-refusal .ensures in
-    e ∙ sym (by-parameters (g .family) (g .k) (g .len) (g .object-len) (g .nodes-len) (rw e at (c .if1 .taken)))
+    e ∙ sym (by-parameters (g .family) (g .k) (g .len) (g .object-len) _ (g .nodes-len) _ (rw e at (c .if1 .taken)))
 
 mul-if2 : tie.Need-mul-if2
 mul-if2 c = omega (arith, object-small _ _ _ (passed c))
 
 returns-2 : tie.Need-returns-2
+unfolding encodeChecks
 returns-2 c =
     let g = c .before .before .before .args in
-    sym (by-object (g .family) (g .k) (g .len) (g .object-len) (g .nodes-len) (passed (c .before)) (c .if2 .taken))
+    sym (by-first (g .family) (g .k) (g .len) (g .object-len) _ (g .nodes-len) _ (passed (c .before)) (c .if2 .taken))
 
 node-count-of-requires : tie.Need-node-count-of-requires
 node-count-of-requires c κs = in-range _ _ _ (passed (c .before)) .blocks
@@ -35,14 +39,16 @@ mul-if3 : tie.Need-mul-if3
 mul-if3 c = rw (c .node-count-of .ensures) (omega (arith, nodes-small _ _ _ (passed (c .before .before))))
 
 returns-3 : tie.Need-returns-3
+unfolding encodeChecks
 returns-3 c =
     let g = c .before .before .before .before .before .args in
-    sym (by-nodes (g .family) (g .k) (g .len) (g .object-len) (g .nodes-len) (passed (c .before .before .before)) (c .before .before .if2 .left) (rw (c .before .node-count-of .ensures) at (c .if3 .taken)))
+    sym (by-second (g .family) (g .k) (g .len) (g .object-len) _ (g .nodes-len) _ (passed (c .before .before .before)) (c .before .before .if2 .left) (rw (c .before .node-count-of .ensures) at (c .if3 .taken)))
 
 returns-4 : tie.Need-returns-4
+unfolding encodeChecks
 returns-4 c =
     let g = c .before .before .before .before .before .args in
-    sym (by-none (g .family) (g .k) (g .len) (g .object-len) (g .nodes-len) (passed (c .before .before .before)) (c .before .before .if2 .left) (rw (c .before .node-count-of .ensures) at (c .if3 .left)))
+    sym (by-none (g .family) (g .k) (g .len) (g .object-len) _ (g .nodes-len) _ (passed (c .before .before .before)) (c .before .before .if2 .left) (rw (c .before .node-count-of .ensures) at (c .if3 .left)))
 
 pub encode-refusal-spec : {M : Type 1} → statement M
 encode-refusal-spec =
