@@ -1,0 +1,49 @@
+-- `interleaving::interleave` meets its contract: an object is L rows of k bytes, and its blocks are the columns.
+-- Assumes nothing.
+use mathlib.Core.Path.{_≡_, sym, _∙_}
+use native.Mathlib.Nat.{mul-comm}
+use Rattle.interleaving.specs.Interleaved.{interleaved, interleaveAnswer}
+use Rattle.interleaving.proofs.Laws.{interleaved-is}
+use Rattle.interleaving.proofs.Answers.{accepted-call, kept, written}
+use borrow.Author.Needs.{needs}
+use Rattle.interleaving.proofs.interleave.Statement.{statement}
+use Rattle.interleaving.proofs.interleave.Tie as tie
+
+-- the call is accepted
+served : (c : tie.Else1) → let g = c .before .before .before .before .args in interleaveAnswer (g .family) (g .k) (g .len) (g .object .now) (g .out .now) ≡ 0
+unfolding interleaveAnswer
+served c = sym (c .before .interleave-refusal .ensures) ∙ c .if1 .left
+
+returns : tie.Need-returns
+unfolding interleaveAnswer
+returns c =
+    let s : tie.Start = search in
+    let g = s .args in
+    let e = c .before .interleave-refusal .ensures in
+    (e, sym (kept (g .family) (g .k) (g .len) (g .object .now) (g .out .now) interleaved (λ z. c .if1 .taken (e ∙ z))))
+
+transpose-tall-requires : tie.Need-transpose-tall-requires
+transpose-tall-requires c κs =
+    let s : tie.Start = search in
+    let g = s .args in
+    let a = accepted-call (g .family) (g .k) (g .len) (g .object .now) (g .out .now) (served (search)) in
+    let m = mul-comm (g .k) (g .len) in
+    (a .first ∙ m, a .second ∙ m)
+
+returns-2 : tie.Need-returns-2
+returns-2 c =
+    let s : tie.Start = search in
+    let t : tie.After-transpose-tall = search in
+    let g = s .args in
+    let e = served (search) in
+    (sym e, t .transpose-tall .ensures ∙ sym (interleaved-is (g .k) (g .len) (g .object .now)) ∙ sym (written (g .family) (g .k) (g .len) (g .object .now) (g .out .now) interleaved e))
+
+pub interleave-spec : {M : Type 1} → statement M
+interleave-spec =
+    tie.close
+    (tie.spec
+    (λ c κs. search needs)
+    returns
+    transpose-tall-requires
+    (λ c. search needs)
+    returns-2)

@@ -1,0 +1,2 @@
+pub mod Interleaved
+pub mod Claims
