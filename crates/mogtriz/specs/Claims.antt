@@ -10,6 +10,7 @@ use lib.ListN.{length, getD, take, drop, replicate}
 use Rattle.lists.specs.Lists.{isIn}
 use Rattle.families.specs.Families.{familyOf, IsNode, nodeCount, columnOf, nodeOf, areRelated}
 use Rattle.encoding.specs.Encode.{encodeAnswer}
+use Rattle.interleaving.specs.Interleaved.{interleaved, deinterleaved, interleaveAnswer, outInterleaved}
 use Rattle.checks.specs.Checks.{firstMet}
 use Rattle.checks.specs.Claims.{InRange}
 use Rattle.boxes.specs.Box.{kIn, blockLengthIn, namesIn, bodyChecks, bodyOf}
@@ -284,6 +285,33 @@ pub record WholeWayC (way : Way) (moves : List Move) : Type 0 where
 -- for every family, k, L and object, every start and list that are accepted, every buffer, and every list of calls
 abbrev pub WholeWayCClaim : Type 0
 WholeWayCClaim = (way : Way) → OnTheWayC way → (moves : List Move) → WholeWayC way moves
+
+-- ---- interleaved objects, for C
+
+-- what mogtriz_interleave leaves, mogtriz_encode accepts with any nodes buffer of n × L bytes
+abbrev pub InterleavedObjectCClaim : Type 0
+InterleavedObjectCClaim = (family k L : ℕ) (object out nodes : List ℕ) → interleaveAnswer family k L object out ≡ 0 → length nodes ≡ nodeCount (familyOf family) k * L
+    → encodeAnswer family k L (outInterleaved interleaved family k L object out) nodes ≡ 0
+
+-- an object comes to the whole way interleaved: mogtriz_interleave is accepted, and what it leaves is what mogtriz_encode gets
+pub record ByInterleave (way : Way) (object out : List ℕ) : Type 0 where
+  pub interleave : interleaveAnswer (way .family) (way .k) (way .len) object out ≡ 0
+  pub handed-on : way .object ≡ outInterleaved interleaved (way .family) (way .k) (way .len) object out
+
+-- what mogtriz_read_out leaves at the end of the way
+abbrev pub outAtC : Way → List Move → List ℕ → List ℕ
+outAtC way moves result = objectOut (sessionOfC (stateAtC way moves .session)) (stateAtC way moves .nodes) result
+
+-- mogtriz_deinterleave accepts it, with any destination of k × L bytes, which then holds the object
+pub record PutBackC (way : Way) (moves : List Move) (object result again : List ℕ) : Type 0 where
+  pub accepted : interleaveAnswer (way .family) (way .k) (way .len) (outAtC way moves result) again ≡ 0
+  pub same : outInterleaved deinterleaved (way .family) (way .k) (way .len) (outAtC way moves result) again ≡ object
+
+-- whatever calls are made on the way, where mogtriz_read_out is accepted
+abbrev pub InterleavedWayCClaim : Type 0
+InterleavedWayCClaim = (way : Way) (object out : List ℕ) → ByInterleave way object out → OnTheWayC way
+    → (moves : List Move) (result again : List ℕ) → readOutC (stateAtC way moves .session) (stateAtC way moves .nodes) result .refusal ≡ 0
+    → length again ≡ way .k * way .len → PutBackC way moves object result again
 
 -- ---- boxes in graded order, for C
 
