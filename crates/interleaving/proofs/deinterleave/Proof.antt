@@ -1,6 +1,8 @@
 -- `interleaving::deinterleave` meets its contract: the blocks are k rows of L bytes, and the object is their columns.
 -- Assumes nothing.
 use mathlib.Core.Path.{_≡_, sym, _∙_}
+use native.Mathlib.Nat.{mul-comm}
+use native.Mathlib.Omega.{arith}
 use Rattle.interleaving.specs.Interleaved.{deinterleaved, interleaveAnswer}
 use Rattle.interleaving.proofs.Laws.{deinterleaved-is}
 use Rattle.interleaving.proofs.Answers.{accepted-call, kept, written}
@@ -26,7 +28,8 @@ transpose-wide-requires c κs =
     let s : tie.Start = search in
     let g = s .args in
     let a = accepted-call (g .family) (g .k) (g .len) (g .blocks .now) (g .out .now) (served (search)) in
-    (a .first, a .second)
+    let m = mul-comm (g .k) (g .len) in
+    (omega (arith, a .first, m), omega (arith, a .second, m))
 
 returns-2 : tie.Need-returns-2
 returns-2 c =

@@ -2,6 +2,7 @@
 -- Assumes nothing.
 use mathlib.Core.Path.{_≡_, sym, _∙_}
 use native.Mathlib.Nat.{mul-comm}
+use native.Mathlib.Omega.{arith}
 use Rattle.interleaving.specs.Interleaved.{interleaved, interleaveAnswer}
 use Rattle.interleaving.proofs.Laws.{interleaved-is}
 use Rattle.interleaving.proofs.Answers.{accepted-call, kept, written}
@@ -28,7 +29,7 @@ transpose-tall-requires c κs =
     let g = s .args in
     let a = accepted-call (g .family) (g .k) (g .len) (g .object .now) (g .out .now) (served (search)) in
     let m = mul-comm (g .k) (g .len) in
-    (a .first ∙ m, a .second ∙ m)
+    (omega (arith, a .first, m), omega (arith, a .second, m))
 
 returns-2 : tie.Need-returns-2
 returns-2 c =
