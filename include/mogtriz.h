@@ -144,6 +144,30 @@ size_t mogtriz_version(void);
 MOGTRIZ_CALL uint8_t mogtriz_encode(size_t family, size_t k, size_t len, const uint8_t *object, size_t object_len, uint8_t *nodes,
                                     size_t nodes_len);
 
+/*
+ * Interleaving, for whoever wants a lost data block to take every k-th byte of an object and not len bytes in a row. It comes before an
+ * encode, and its reverse after the object is read out. Nothing in nodes or in a box tells whether the object was interleaved: the
+ * caller has to know, and to keep it as it keeps the true length. mogtriz_encode and mogtriz_read_out take and give the bytes as they
+ * are.
+ */
+
+/*
+ * An object interleaved: byte t of it, from 0, goes to block t % k + 1 at place t / k, which is byte t % k * len + t / k of `out`. So
+ * `out` is k blocks of len bytes, an object for mogtriz_encode. With k 3 and len 2, abcdef becomes adbecf.
+ * `out` is another buffer: no object is interleaved in place.
+ * Gives 0 or: 1, 2, 3, then 6 where object_len or out_len is not k * len.
+ */
+MOGTRIZ_CALL uint8_t mogtriz_interleave(size_t family, size_t k, size_t len, const uint8_t *object, size_t object_len, uint8_t *out,
+                                        size_t out_len);
+
+/*
+ * The reverse: byte t % k * len + t / k of an object becomes byte t of `out`. Its answers are those of mogtriz_interleave, in the same
+ * order, and an object that is interleaved and then deinterleaved, or the other way round, has the same bytes. One that was not
+ * interleaved is accepted too, and comes out with its bytes in wrong places.
+ */
+MOGTRIZ_CALL uint8_t mogtriz_deinterleave(size_t family, size_t k, size_t len, const uint8_t *object, size_t object_len, uint8_t *out,
+                                          size_t out_len);
+
 /* n, the number of nodes; 0 where the family or k is out of range. */
 size_t mogtriz_node_count(size_t family, size_t k);
 
@@ -383,6 +407,22 @@ MOGTRIZ_ANSWERS static inline uint8_t mogtriz_inline_encode(size_t family, size_
                           mogtriz_inline_target(nodes, nodes_len), nodes_len);
 }
 
+MOGTRIZ_ANSWERS static inline uint8_t mogtriz_inline_interleave(size_t family, size_t k, size_t len, const uint8_t *object,
+                                                                size_t object_len, uint8_t *out, size_t out_len)
+{
+    MOGTRIZ_ASSERT(mogtriz_inline_apart(out, out_len, object, object_len));
+    return mogtriz_interleave(family, k, len, mogtriz_inline_source(object, object_len), object_len,
+                              mogtriz_inline_target(out, out_len), out_len);
+}
+
+MOGTRIZ_ANSWERS static inline uint8_t mogtriz_inline_deinterleave(size_t family, size_t k, size_t len, const uint8_t *object,
+                                                                  size_t object_len, uint8_t *out, size_t out_len)
+{
+    MOGTRIZ_ASSERT(mogtriz_inline_apart(out, out_len, object, object_len));
+    return mogtriz_deinterleave(family, k, len, mogtriz_inline_source(object, object_len), object_len,
+                                mogtriz_inline_target(out, out_len), out_len);
+}
+
 MOGTRIZ_ANSWERS static inline mogtriz_started mogtriz_inline_start(size_t family, size_t k, size_t len, const uint8_t *list,
                                                                    size_t list_len)
 {
@@ -466,6 +506,8 @@ MOGTRIZ_ANSWERS static inline mogtriz_repairs mogtriz_inline_run(mogtriz_session
 #undef MOGTRIZ_ANSWERS
 
 #define mogtriz_encode(...) mogtriz_inline_encode(__VA_ARGS__)
+#define mogtriz_interleave(...) mogtriz_inline_interleave(__VA_ARGS__)
+#define mogtriz_deinterleave(...) mogtriz_inline_deinterleave(__VA_ARGS__)
 #define mogtriz_start(...) mogtriz_inline_start(__VA_ARGS__)
 #define mogtriz_check(...) mogtriz_inline_check(__VA_ARGS__)
 #define mogtriz_read(...) mogtriz_inline_read(__VA_ARGS__)

@@ -17,6 +17,12 @@ static void codes_take_empty_buffers(void)
     EXPECT(mogtriz_encode(MOGTRIZ_SIMPLEX, K, LEN, null, 0, nodes, sizeof nodes) == MOGTRIZ_REFUSED_BUFFER_LENGTH);
     EXPECT(mogtriz_encode(MOGTRIZ_SIMPLEX, K, LEN, object, sizeof object, null, 0) == MOGTRIZ_REFUSED_BUFFER_LENGTH);
     EXPECT(mogtriz_encode(MOGTRIZ_SIMPLEX, K, LEN, null, 0, null, 0) == MOGTRIZ_REFUSED_BUFFER_LENGTH);
+    EXPECT(mogtriz_interleave(MOGTRIZ_SIMPLEX, K, LEN, null, 0, again, sizeof again) == MOGTRIZ_REFUSED_BUFFER_LENGTH);
+    EXPECT(mogtriz_interleave(MOGTRIZ_SIMPLEX, K, LEN, object, sizeof object, null, 0) == MOGTRIZ_REFUSED_BUFFER_LENGTH);
+    EXPECT(mogtriz_interleave(MOGTRIZ_SIMPLEX, K, LEN, null, 0, null, 0) == MOGTRIZ_REFUSED_BUFFER_LENGTH);
+    EXPECT(mogtriz_deinterleave(MOGTRIZ_SIMPLEX, K, LEN, null, 0, again, sizeof again) == MOGTRIZ_REFUSED_BUFFER_LENGTH);
+    EXPECT(mogtriz_deinterleave(MOGTRIZ_SIMPLEX, K, LEN, object, sizeof object, null, 0) == MOGTRIZ_REFUSED_BUFFER_LENGTH);
+    EXPECT(mogtriz_deinterleave(MOGTRIZ_SIMPLEX, K, LEN, null, 0, null, 0) == MOGTRIZ_REFUSED_BUFFER_LENGTH);
     mogtriz_started started = mogtriz_start(MOGTRIZ_SIMPLEX, K, LEN, null, 0);
     EXPECT(started.refusal == MOGTRIZ_SERVED && mogtriz_live_count(started.session) == 0);
 }
@@ -78,38 +84,46 @@ static uint8_t null_fault(int fault)
     case 2:
         return mogtriz_encode(MOGTRIZ_SIMPLEX, K, LEN, object, sizeof object, null, N);
     case 3:
-        return mogtriz_start(MOGTRIZ_SIMPLEX, K, LEN, null, 1).refusal;
+        return mogtriz_interleave(MOGTRIZ_SIMPLEX, K, LEN, null, K, again, sizeof again);
     case 4:
-        return mogtriz_check(null, 8).refusal;
+        return mogtriz_interleave(MOGTRIZ_SIMPLEX, K, LEN, object, sizeof object, null, K);
     case 5:
-        return mogtriz_read(null, 8, nodes, sizeof nodes).refusal;
+        return mogtriz_deinterleave(MOGTRIZ_SIMPLEX, K, LEN, null, K, again, sizeof again);
     case 6:
-        return mogtriz_read(three_box, sizeof three_box, null, N).refusal;
+        return mogtriz_deinterleave(MOGTRIZ_SIMPLEX, K, LEN, object, sizeof object, null, K);
     case 7:
-        return mogtriz_body(null, 8, 4).refusal;
+        return mogtriz_start(MOGTRIZ_SIMPLEX, K, LEN, null, 1).refusal;
     case 8:
-        return mogtriz_from_graded(null, 8, out, sizeof out).refusal;
+        return mogtriz_check(null, 8).refusal;
     case 9:
-        return mogtriz_from_graded(three_box, sizeof three_box, null, sizeof out).refusal;
+        return mogtriz_read(null, 8, nodes, sizeof nodes).refusal;
     case 10:
-        return mogtriz_to_graded(null, 8, out, sizeof out).refusal;
+        return mogtriz_read(three_box, sizeof three_box, null, N).refusal;
     case 11:
-        return mogtriz_to_graded(three_box, sizeof three_box, null, sizeof out).refusal;
+        return mogtriz_body(null, 8, 4).refusal;
     case 12:
-        return mogtriz_write(three_live(), null, N, kept, sizeof kept, out, sizeof out).refusal;
+        return mogtriz_from_graded(null, 8, out, sizeof out).refusal;
     case 13:
-        return mogtriz_write(three_live(), three_nodes, sizeof three_nodes, null, 1, out, sizeof out).refusal;
+        return mogtriz_from_graded(three_box, sizeof three_box, null, sizeof out).refusal;
     case 14:
-        return mogtriz_write(three_live(), three_nodes, sizeof three_nodes, kept, sizeof kept, null, sizeof out).refusal;
+        return mogtriz_to_graded(null, 8, out, sizeof out).refusal;
     case 15:
-        return mogtriz_live_nodes(three_live(), null, 1).refusal;
+        return mogtriz_to_graded(three_box, sizeof three_box, null, sizeof out).refusal;
     case 16:
-        return mogtriz_read_out(three_live(), null, N, again, sizeof again).refusal;
+        return mogtriz_write(three_live(), null, N, kept, sizeof kept, out, sizeof out).refusal;
     case 17:
-        return mogtriz_read_out(three_live(), three_nodes, sizeof three_nodes, null, K).refusal;
+        return mogtriz_write(three_live(), three_nodes, sizeof three_nodes, null, 1, out, sizeof out).refusal;
     case 18:
-        return mogtriz_step(three_live(), null, N, 1, 4, 5).refusal;
+        return mogtriz_write(three_live(), three_nodes, sizeof three_nodes, kept, sizeof kept, null, sizeof out).refusal;
     case 19:
+        return mogtriz_live_nodes(three_live(), null, 1).refusal;
+    case 20:
+        return mogtriz_read_out(three_live(), null, N, again, sizeof again).refusal;
+    case 21:
+        return mogtriz_read_out(three_live(), three_nodes, sizeof three_nodes, null, K).refusal;
+    case 22:
+        return mogtriz_step(three_live(), null, N, 1, 4, 5).refusal;
+    case 23:
         return mogtriz_plan(three_live(), null, 1).refusal;
     default:
         return mogtriz_run(three_live(), null, N).refusal;
@@ -121,26 +135,30 @@ static uint8_t overlap_fault(int fault)
 {
     static uint8_t shared[64];
     switch (fault) {
-    case 21:
-        return mogtriz_encode(MOGTRIZ_SIMPLEX, K, LEN, shared, K, shared + K - 1, N);
-    case 22:
-        return mogtriz_encode(MOGTRIZ_SIMPLEX, K, LEN, shared + N - 1, K, shared, N);
-    case 23:
-        return mogtriz_read(shared, sizeof shared, shared, N).refusal;
-    case 24:
-        return mogtriz_from_graded(shared, sizeof out, shared + sizeof out - 1, sizeof out).refusal;
     case 25:
-        return mogtriz_to_graded(shared + sizeof out - 1, sizeof out, shared, sizeof out).refusal;
+        return mogtriz_encode(MOGTRIZ_SIMPLEX, K, LEN, shared, K, shared + K - 1, N);
     case 26:
-        return mogtriz_write(three_live(), shared, N, kept, sizeof kept, shared + 1, sizeof out).refusal;
+        return mogtriz_encode(MOGTRIZ_SIMPLEX, K, LEN, shared + N - 1, K, shared, N);
     case 27:
+        return mogtriz_interleave(MOGTRIZ_SIMPLEX, K, LEN, shared, K, shared + K - 1, K);
+    case 28:
+        return mogtriz_deinterleave(MOGTRIZ_SIMPLEX, K, LEN, shared + K - 1, K, shared, K);
+    case 29:
+        return mogtriz_read(shared, sizeof shared, shared, N).refusal;
+    case 30:
+        return mogtriz_from_graded(shared, sizeof out, shared + sizeof out - 1, sizeof out).refusal;
+    case 31:
+        return mogtriz_to_graded(shared + sizeof out - 1, sizeof out, shared, sizeof out).refusal;
+    case 32:
+        return mogtriz_write(three_live(), shared, N, kept, sizeof kept, shared + 1, sizeof out).refusal;
+    case 33:
         return mogtriz_write(three_live(), three_nodes, sizeof three_nodes, shared + 1, 1, shared, sizeof out).refusal;
     default:
         return mogtriz_read_out(three_live(), shared, N, shared + 1, K).refusal;
     }
 }
 
-enum { NULL_FAULTS = 20, FAULTS = 28 };
+enum { NULL_FAULTS = 24, FAULTS = 34 };
 
 int main(int count, char **arguments)
 {

@@ -39,6 +39,54 @@ static void call_encode(void)
     EXPECT(memcmp(nodes, all_nodes, sizeof nodes) == 0);
 }
 
+/* Byte t goes to block t % K + 1 at place t / K, and back. */
+static void call_interleaving(void)
+{
+    enum { TWO = 2, OBJECT = K * TWO };
+    const uint8_t deposited[OBJECT] = {'a', 'b', 'c', 'd', 'e', 'f'};
+    const uint8_t interleaved[OBJECT] = {'a', 'd', 'b', 'e', 'c', 'f'};
+    uint8_t out[OBJECT + 1];
+    memset(out, 0xaa, sizeof out);
+    EXPECT(mogtriz_interleave(4, 9, 0, deposited, OBJECT, out, sizeof out) == MOGTRIZ_REFUSED_FAMILY_UNKNOWN);
+    EXPECT(mogtriz_interleave(MOGTRIZ_SIMPLEX, 9, 0, deposited, OBJECT, out, sizeof out) == MOGTRIZ_REFUSED_K_OUT_OF_RANGE);
+    EXPECT(mogtriz_interleave(MOGTRIZ_SIMPLEX, K, 0, deposited, OBJECT, out, sizeof out) == MOGTRIZ_REFUSED_LEN_OUT_OF_RANGE);
+    EXPECT(mogtriz_interleave(MOGTRIZ_SIMPLEX, K, TWO, deposited, OBJECT, out, sizeof out) == MOGTRIZ_REFUSED_BUFFER_LENGTH);
+    EXPECT(mogtriz_interleave(MOGTRIZ_SIMPLEX, K, TWO, deposited, OBJECT - 1, out, OBJECT) == MOGTRIZ_REFUSED_BUFFER_LENGTH);
+    EXPECT(out[0] == 0xaa && memcmp(out, out + 1, OBJECT) == 0);
+    EXPECT(mogtriz_interleave(MOGTRIZ_SIMPLEX, K, TWO, deposited, OBJECT, out, OBJECT) == MOGTRIZ_SERVED);
+    EXPECT(memcmp(out, interleaved, OBJECT) == 0 && out[OBJECT] == 0xaa);
+
+    memset(out, 0xaa, sizeof out);
+    EXPECT(mogtriz_deinterleave(0, 23, 0, interleaved, OBJECT, out, sizeof out) == MOGTRIZ_REFUSED_FAMILY_UNKNOWN);
+    EXPECT(mogtriz_deinterleave(MOGTRIZ_WEIGHT_TWO, 23, 0, interleaved, OBJECT, out, sizeof out) == MOGTRIZ_REFUSED_K_OUT_OF_RANGE);
+    EXPECT(mogtriz_deinterleave(MOGTRIZ_WEIGHT_TWO, K, MOGTRIZ_MOST_LEN + 1, interleaved, OBJECT, out, sizeof out) ==
+           MOGTRIZ_REFUSED_LEN_OUT_OF_RANGE);
+    EXPECT(mogtriz_deinterleave(MOGTRIZ_WEIGHT_TWO, K, TWO, interleaved, OBJECT, out, OBJECT - 1) == MOGTRIZ_REFUSED_BUFFER_LENGTH);
+    EXPECT(mogtriz_deinterleave(MOGTRIZ_WEIGHT_TWO, K, TWO, interleaved, OBJECT - 1, out, OBJECT) == MOGTRIZ_REFUSED_BUFFER_LENGTH);
+    EXPECT(out[0] == 0xaa && memcmp(out, out + 1, OBJECT) == 0);
+    EXPECT(mogtriz_deinterleave(MOGTRIZ_WEIGHT_TWO, K, TWO, interleaved, OBJECT, out, OBJECT) == MOGTRIZ_SERVED);
+    EXPECT(memcmp(out, deposited, OBJECT) == 0 && out[OBJECT] == 0xaa);
+}
+
+/* Interleaved, encoded, all but nodes 4, 5 and 7 lost, repaired, read out, deinterleaved: the object that was put in. */
+static void call_the_whole_way(void)
+{
+    enum { TWO = 2, OBJECT = K * TWO, NODES = N * TWO };
+    const uint8_t deposited[OBJECT] = {'a', 'b', 'c', 'd', 'e', 'f'};
+    uint8_t spread[OBJECT], nodes[NODES], read_out[OBJECT], received[OBJECT];
+    EXPECT(mogtriz_interleave(MOGTRIZ_SIMPLEX, K, TWO, deposited, OBJECT, spread, OBJECT) == MOGTRIZ_SERVED);
+    EXPECT(mogtriz_encode(MOGTRIZ_SIMPLEX, K, TWO, spread, OBJECT, nodes, NODES) == MOGTRIZ_SERVED);
+    memset(nodes, 0, 3 * TWO);
+    memset(nodes + 5 * TWO, 0, TWO);
+    mogtriz_started started = mogtriz_start(MOGTRIZ_SIMPLEX, K, TWO, kept, sizeof kept);
+    mogtriz_repairs run = mogtriz_run(started.session, nodes, NODES);
+    EXPECT(run.refusal == MOGTRIZ_SERVED && run.left == 0);
+    EXPECT(mogtriz_read_out(run.session, nodes, NODES, read_out, OBJECT).refusal == MOGTRIZ_SERVED);
+    EXPECT(memcmp(read_out, spread, OBJECT) == 0);
+    EXPECT(mogtriz_deinterleave(MOGTRIZ_SIMPLEX, K, TWO, read_out, OBJECT, received, OBJECT) == MOGTRIZ_SERVED);
+    EXPECT(memcmp(received, deposited, OBJECT) == 0);
+}
+
 static void call_start(void)
 {
     const uint8_t falling[] = {5, 4};
@@ -226,6 +274,8 @@ int main(void)
 {
     call_codes();
     call_encode();
+    call_interleaving();
+    call_the_whole_way();
     call_start();
     call_boxes();
     call_conversions();

@@ -42,7 +42,7 @@ calls() {
     compiled calls "${@:2}"
     nm --undefined-only "$out/calls.o" | names | diff "$out/exported" -
     compiled header "${@:2}"
-    test "$(wc -l <"$out/header.said")" = 2
+    test "$(wc -l <"$out/header.said")" = 3
     while read -r sentence; do
         if ! grep -qF -- "$sentence" include/mogtriz.h; then
             echo "not in the header: $sentence"

@@ -1,6 +1,7 @@
 /*
  * What the header says by itself, held to the library: families and limits, lengths, refusals' texts, and which node has which column.
- * It prints the header's sentences on the tetrahedron and on graded order, with the columns and nodes that the library gives.
+ * It prints the header's sentences on the tetrahedron, on interleaving and on graded order, with the columns, bytes and nodes that the
+ * library gives.
  */
 #include "three_nodes.h"
 
@@ -20,7 +21,8 @@ static const family_range families[] = {
 enum { FAMILIES = sizeof families / sizeof families[0] };
 
 /* Room for the longest buffers, and a byte more. */
-static uint8_t long_object[MOGTRIZ_MOST_OBJECT_LEN + 1], long_nodes[MOGTRIZ_MOST_NODES_LEN + 1];
+static uint8_t long_object[MOGTRIZ_MOST_OBJECT_LEN + 1], other_object[MOGTRIZ_MOST_OBJECT_LEN + 1];
+static uint8_t long_nodes[MOGTRIZ_MOST_NODES_LEN + 1];
 static uint8_t long_box[MOGTRIZ_MOST_BOX_LEN], converted_box[MOGTRIZ_MOST_BOX_LEN];
 
 static uint8_t start_refusal(size_t family, size_t k, size_t len)
@@ -94,6 +96,20 @@ static void hold_encode_lengths(size_t family, size_t k, size_t len)
     }
 }
 
+/* Just the object's length is served for both buffers. */
+static void hold_interleaving_lengths(size_t family, size_t k, size_t len)
+{
+    const size_t object_len = mogtriz_object_len(family, k, len);
+    for (size_t more = 0; more <= 2; more++) {
+        const uint8_t wanted = more == 1 ? MOGTRIZ_SERVED : MOGTRIZ_REFUSED_BUFFER_LENGTH;
+        const size_t near_len = object_len - 1 + more;
+        EXPECT(mogtriz_interleave(family, k, len, long_object, near_len, other_object, object_len) == wanted);
+        EXPECT(mogtriz_interleave(family, k, len, long_object, object_len, other_object, near_len) == wanted);
+        EXPECT(mogtriz_deinterleave(family, k, len, long_object, near_len, other_object, object_len) == wanted);
+        EXPECT(mogtriz_deinterleave(family, k, len, long_object, object_len, other_object, near_len) == wanted);
+    }
+}
+
 /* The box's own length, and no byte less, is room for it converted; only boxes of simplex nodes are. */
 static void hold_converted_length(size_t family, size_t box_len)
 {
@@ -132,6 +148,7 @@ static void hold_lengths(void)
             const size_t n = mogtriz_node_count(families[i].family, k);
             for (size_t j = 0; j < sizeof lengths / sizeof lengths[0]; j++) {
                 hold_encode_lengths(families[i].family, k, lengths[j]);
+                hold_interleaving_lengths(families[i].family, k, lengths[j]);
                 hold_box_length(families[i].family, k, lengths[j], 0);
                 hold_box_length(families[i].family, k, lengths[j], 1);
                 hold_box_length(families[i].family, k, lengths[j], n);
@@ -255,6 +272,20 @@ static void print_tetrahedron(void)
     printf("\n");
 }
 
+/* Six letters, as interleaving puts them. */
+static void print_interleaving(void)
+{
+    const char letters[] = "abcdef";
+    uint8_t in[6], out[6] = {0};
+    memcpy(in, letters, sizeof in);
+    EXPECT(mogtriz_interleave(MOGTRIZ_SIMPLEX, K, 2, in, sizeof in, out, sizeof out) == MOGTRIZ_SERVED);
+    printf("With k %d and len 2, %s becomes ", K, letters);
+    for (size_t place = 0; place < sizeof out; place++) {
+        putchar(out[place]);
+    }
+    printf(".\n");
+}
+
 /* The node at a position of graded order, out of a box that holds it alone. */
 static uint8_t node_at(uint8_t k, uint8_t position)
 {
@@ -284,6 +315,7 @@ int main(void)
     hold_texts();
     hold_columns();
     print_tetrahedron();
+    print_interleaving();
     print_graded_order();
     return wrong == 0 ? 0 : 1;
 }

@@ -6,6 +6,8 @@ void ignore_answers(uint8_t *buffer, size_t length);
 void ignore_answers(uint8_t *buffer, size_t length)
 {
     mogtriz_encode(MOGTRIZ_SIMPLEX, K, LEN, object, sizeof object, buffer, length);
+    mogtriz_interleave(MOGTRIZ_SIMPLEX, K, LEN, object, sizeof object, buffer, length);
+    mogtriz_deinterleave(MOGTRIZ_SIMPLEX, K, LEN, object, sizeof object, buffer, length);
     mogtriz_start(MOGTRIZ_SIMPLEX, K, LEN, kept, sizeof kept);
     mogtriz_check(buffer, length);
     mogtriz_read(three_box, sizeof three_box, buffer, length);

@@ -54,6 +54,16 @@ static void encode(void)
     given = mogtriz_encode(session.family, session.k, session.len, object, object_len, nodes, nodes_len);
 }
 
+static void interleave(void)
+{
+    given = mogtriz_interleave(session.family, session.k, session.len, object, object_len, out, object_len);
+}
+
+static void deinterleave(void)
+{
+    given = mogtriz_deinterleave(session.family, session.k, session.len, object, object_len, out, object_len);
+}
+
 static void start(void)
 {
     given = mogtriz_start(session.family, session.k, session.len, list, list_len).refusal;
@@ -119,11 +129,11 @@ static struct {
     void (*call)(void);
     size_t most;
 } calls[] = {
-    {"version", version, 0}, {"node_count", node_count, 0}, {"column", column, 0},           {"node_of_column", node_of_column, 0},
-    {"related", related, 0}, {"encode", encode, 0},         {"start", start, 0},             {"check", check, 0},
-    {"read", read_box, 0},   {"body", body, 0},             {"from_graded", from_graded, 0}, {"to_graded", to_graded, 0},
-    {"write", write_box, 0}, {"live_nodes", live_nodes, 0}, {"read_out", read_out, 0},       {"step", step, 0},
-    {"plan", make_plan, 0},  {"run", run, 0},
+    {"version", version, 0},         {"node_count", node_count, 0}, {"column", column, 0},         {"node_of_column", node_of_column, 0},
+    {"related", related, 0},         {"encode", encode, 0},         {"interleave", interleave, 0}, {"deinterleave", deinterleave, 0},
+    {"start", start, 0},             {"check", check, 0},           {"read", read_box, 0},         {"body", body, 0},
+    {"from_graded", from_graded, 0}, {"to_graded", to_graded, 0},   {"write", write_box, 0},       {"live_nodes", live_nodes, 0},
+    {"read_out", read_out, 0},       {"step", step, 0},             {"plan", make_plan, 0},        {"run", run, 0},
 };
 
 enum { CALLS = sizeof calls / sizeof calls[0] };

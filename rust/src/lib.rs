@@ -54,6 +54,35 @@
 //! node is at hand: a [`start`](Session::start) with the list 1 to n says so. For a node that is lost or found damaged later,
 //! start anew without it.
 //!
+//! # Objects interleaved
+//!
+//! A data block that is lost takes L bytes of the object in a row, or every k-th byte where the object was interleaved before the
+//! encode. [`interleave`] does so, and [`deinterleave`] puts the bytes back after a read out. A box does not tell whether its
+//! object was interleaved: the caller has to know, and keeps it beside the true length.
+//!
+//! ```
+//! # #[cfg(feature = "alloc")] {
+//! use mogtriz::{SIMPLEX, Session};
+//!
+//! // an object of 3 blocks of 4 bytes is interleaved and becomes 7 nodes
+//! let object = *b"dialect tape";
+//! let interleaved = mogtriz::interleave_to_vec(SIMPLEX, 3, 4, &object)?;
+//! assert_eq!(interleaved, *b"dltaie pacte");
+//! let mut nodes = mogtriz::encode_to_vec(SIMPLEX, 3, 4, &interleaved)?;
+//!
+//! // node 1, which is data block 1, is lost, and repaired from the others
+//! nodes[..4].fill(0);
+//! let mut session = Session::start(SIMPLEX, 3, 4, &[2, 3, 4, 5, 6, 7])?;
+//! assert_eq!(session.run(&mut nodes)?.left, 0);
+//!
+//! // what is read out is still interleaved
+//! let read_out = session.read_out_to_vec(&nodes)?;
+//! assert_eq!(read_out, interleaved);
+//! assert_eq!(mogtriz::deinterleave_to_vec(SIMPLEX, 3, 4, &read_out)?, object);
+//! # }
+//! # Ok::<(), mogtriz::Refusal>(())
+//! ```
+//!
 //! # Boxes with other node numbers
 //!
 //! Others number simplex nodes in graded order. [`from_graded`] converts such a box to our numbers and [`to_graded`] one with our
@@ -63,9 +92,9 @@
 //!
 //! Calls write to buffers that the caller lends; [`nodes_len`], [`object_len`], [`box_len`], [`PLAN_ROOM`] and, for a list of
 //! nodes, [`MOST_NODES`] say how long they have to be. With the feature `alloc`, which is on unless `default-features = false`
-//! is said, encode, read, write, live nodes, read out, plan and the conversions have a second form that gives a `Vec` instead,
-//! by the name with `_to_vec` at its end, as `write_to_vec` and `live_nodes_to_vec`. Without it the package needs neither the
-//! standard library nor an allocator.
+//! is said, encode, interleave and deinterleave, read, write, live nodes, read out, plan and the conversions have a second form
+//! that gives a `Vec` instead, by the name with `_to_vec` at its end, as `write_to_vec` and `live_nodes_to_vec`. Without it the
+//! package needs neither the standard library nor an allocator.
 #![no_std]
 #![deny(unsafe_code, missing_docs)]
 
@@ -74,6 +103,7 @@ extern crate alloc;
 
 mod boxes;
 mod codes;
+mod interleaving;
 mod lengths;
 mod plan;
 #[allow(unsafe_code, missing_docs)]
@@ -88,6 +118,7 @@ mod version;
 
 pub use boxes::{body, from_graded, to_graded};
 pub use codes::{SIMPLEX, TETRAHEDRON, WEIGHT_TWO, column, encode, node_of_column, related};
+pub use interleaving::{deinterleave, interleave};
 pub use lengths::{
     MOST_K, MOST_LEN, MOST_NODES, PLAN_ROOM, box_len, node_count, nodes_len, object_len,
 };
@@ -96,5 +127,7 @@ pub use refusal::Refusal;
 pub use repair::Repairs;
 pub use session::{MARKS, Session};
 #[cfg(feature = "alloc")]
-pub use vecs::{encode_to_vec, from_graded_to_vec, to_graded_to_vec};
+pub use vecs::{
+    deinterleave_to_vec, encode_to_vec, from_graded_to_vec, interleave_to_vec, to_graded_to_vec,
+};
 pub use version::{VERSION, version};

@@ -103,6 +103,24 @@ unsafe extern "C" {
         nodes: *mut u8,
         nodes_len: usize,
     ) -> u8;
+    fn mogtriz_interleave(
+        family: usize,
+        k: usize,
+        len: usize,
+        object: *const u8,
+        object_len: usize,
+        out: *mut u8,
+        out_len: usize,
+    ) -> u8;
+    fn mogtriz_deinterleave(
+        family: usize,
+        k: usize,
+        len: usize,
+        object: *const u8,
+        object_len: usize,
+        out: *mut u8,
+        out_len: usize,
+    ) -> u8;
     pub safe fn mogtriz_version() -> usize;
     pub safe fn mogtriz_node_count(family: usize, k: usize) -> usize;
     pub safe fn mogtriz_column(family: usize, k: usize, node: usize) -> usize;
@@ -185,6 +203,36 @@ pub fn encode(family: usize, k: usize, len: usize, object: &[u8], nodes: &mut [u
             object.len(),
             nodes.as_mut_ptr(),
             nodes.len(),
+        )
+    }
+}
+
+pub fn interleave(family: usize, k: usize, len: usize, object: &[u8], out: &mut [u8]) -> u8 {
+    // SAFETY: as above.
+    unsafe {
+        mogtriz_interleave(
+            family,
+            k,
+            len,
+            object.as_ptr(),
+            object.len(),
+            out.as_mut_ptr(),
+            out.len(),
+        )
+    }
+}
+
+pub fn deinterleave(family: usize, k: usize, len: usize, object: &[u8], out: &mut [u8]) -> u8 {
+    // SAFETY: as above.
+    unsafe {
+        mogtriz_deinterleave(
+            family,
+            k,
+            len,
+            object.as_ptr(),
+            object.len(),
+            out.as_mut_ptr(),
+            out.len(),
         )
     }
 }

@@ -1,6 +1,6 @@
 //! The calls that fill a buffer, giving a `Vec` of just the length instead.
 use crate::{MOST_NODES, PLAN_ROOM, Refusal, Repairs, Session, Step};
-use crate::{encode, from_graded, nodes_len, to_graded};
+use crate::{deinterleave, encode, from_graded, interleave, nodes_len, object_len, to_graded};
 use alloc::vec;
 use alloc::vec::Vec;
 
@@ -29,6 +29,60 @@ pub fn encode_to_vec(
     let mut nodes = vec![0; nodes_len(family, k, len)?];
     encode(family, k, len, object, &mut nodes)?;
     Ok(nodes)
+}
+
+/// The object that [`interleave`] makes of an object, to be encoded: k × L bytes. With the feature `alloc`.
+///
+/// # Errors
+///
+/// The first of these that is met:
+///
+/// - 1, [`Refusal::FamilyUnknown`]
+/// - 2, [`Refusal::KOutOfRange`]
+/// - 3, [`Refusal::LenOutOfRange`]
+/// - 6, [`Refusal::BufferLength`]: the object is not k × L bytes
+///
+/// ```
+/// let interleaved = mogtriz::interleave_to_vec(mogtriz::WEIGHT_TWO, 2, 3, b"abcdef")?;
+/// assert_eq!(interleaved, b"acebdf");
+/// # Ok::<(), mogtriz::Refusal>(())
+/// ```
+pub fn interleave_to_vec(
+    family: usize,
+    k: usize,
+    len: usize,
+    object: &[u8],
+) -> Result<Vec<u8>, Refusal> {
+    let mut out = vec![0; object_len(family, k, len)?];
+    interleave(family, k, len, object, &mut out)?;
+    Ok(out)
+}
+
+/// The object that [`deinterleave`] makes of an interleaved one that was read out: k × L bytes. With the feature `alloc`.
+///
+/// # Errors
+///
+/// The first of these that is met:
+///
+/// - 1, [`Refusal::FamilyUnknown`]
+/// - 2, [`Refusal::KOutOfRange`]
+/// - 3, [`Refusal::LenOutOfRange`]
+/// - 6, [`Refusal::BufferLength`]: the object is not k × L bytes
+///
+/// ```
+/// let object = mogtriz::deinterleave_to_vec(mogtriz::WEIGHT_TWO, 2, 3, b"acebdf")?;
+/// assert_eq!(object, b"abcdef");
+/// # Ok::<(), mogtriz::Refusal>(())
+/// ```
+pub fn deinterleave_to_vec(
+    family: usize,
+    k: usize,
+    len: usize,
+    object: &[u8],
+) -> Result<Vec<u8>, Refusal> {
+    let mut out = vec![0; object_len(family, k, len)?];
+    deinterleave(family, k, len, object, &mut out)?;
+    Ok(out)
 }
 
 /// The box that [`from_graded`] makes of a box in graded order, with our numbers. With the feature `alloc`.

@@ -2,7 +2,7 @@
 //! turned away.
 use mogtriz::{
     MARKS, MOST_LEN, PLAN_ROOM, Refusal, SIMPLEX, Session, Step, TETRAHEDRON, WEIGHT_TWO, box_len,
-    encode, from_graded, node_count, nodes_len, object_len, to_graded,
+    deinterleave, encode, from_graded, interleave, node_count, nodes_len, object_len, to_graded,
 };
 
 const LENGTHS: [usize; 4] = [1, 2, 255, MOST_LEN];
@@ -47,6 +47,28 @@ fn encode_asks_for_the_lengths_of_object_and_nodes() -> Result<(), Refusal> {
             let (object, mut nodes) = (vec![7; object_len], vec![0; nodes_len]);
             let encoded = encode(family, k, len, &object, &mut nodes);
             assert_eq!(encoded, wanted, "{session:?}");
+        }
+    }
+    Ok(())
+}
+
+#[test]
+fn interleaving_asks_for_the_length_of_the_object_twice() -> Result<(), Refusal> {
+    for session in full_sessions() {
+        let (family, k, len) = (session.family(), session.k(), session.block_len());
+        let exact = object_len(family, k, len)?;
+        for (object_len, out_len, wanted) in [
+            (exact, exact, Ok(())),
+            (exact - 1, exact, Err(Refusal::BufferLength)),
+            (exact + 1, exact, Err(Refusal::BufferLength)),
+            (exact, exact - 1, Err(Refusal::BufferLength)),
+            (exact, exact + 1, Err(Refusal::BufferLength)),
+        ] {
+            let (object, mut out) = (vec![7; object_len], vec![0; out_len]);
+            for call in [interleave, deinterleave] {
+                let answer = call(family, k, len, &object, &mut out);
+                assert_eq!(answer, wanted, "{session:?}");
+            }
         }
     }
     Ok(())
@@ -126,6 +148,11 @@ fn numbers_out_of_range_are_refused_as_by_a_start() {
                 assert_eq!(object_len(family, k, len).map(|_| ()), wanted, "{place}");
                 assert_eq!(nodes_len(family, k, len).map(|_| ()), wanted, "{place}");
                 assert_eq!(box_len(family, k, len, 0).map(|_| ()), wanted, "{place}");
+                // empty buffers have no length that is asked for, but that is looked at last
+                let wanted = wanted.and(Err(Refusal::BufferLength));
+                for call in [encode, interleave, deinterleave] {
+                    assert_eq!(call(family, k, len, &[], &mut []), wanted, "{place}");
+                }
             }
         }
     }

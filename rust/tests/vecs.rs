@@ -2,7 +2,8 @@
 #![cfg(feature = "alloc")]
 use mogtriz::{
     MARKS, MOST_LEN, MOST_NODES, PLAN_ROOM, Refusal, SIMPLEX, Session, TETRAHEDRON, WEIGHT_TWO,
-    encode, encode_to_vec, from_graded, from_graded_to_vec, to_graded, to_graded_to_vec,
+    deinterleave, deinterleave_to_vec, encode, encode_to_vec, from_graded, from_graded_to_vec,
+    interleave, interleave_to_vec, to_graded, to_graded_to_vec,
 };
 
 const CODES: [(usize, usize, usize); 4] = [
@@ -44,6 +45,44 @@ fn nodes_are_encoded_alike() -> Result<(), Refusal> {
     for (family, k, len) in [(0, 9, 0), (SIMPLEX, 9, 0), (SIMPLEX, 8, usize::MAX)] {
         let wanted = encode(family, k, len, &[], &mut []).unwrap_err();
         assert_eq!(encode_to_vec(family, k, len, &[]), Err(wanted));
+    }
+    Ok(())
+}
+
+/// An object, interleaved or deinterleaved, into a lent buffer and into a `Vec`.
+type IntoBuffer = fn(usize, usize, usize, &[u8], &mut [u8]) -> Result<(), Refusal>;
+type IntoVec = fn(usize, usize, usize, &[u8]) -> Result<Vec<u8>, Refusal>;
+
+#[test]
+fn objects_are_interleaved_and_deinterleaved_alike() -> Result<(), Refusal> {
+    let forms: [(IntoBuffer, IntoVec); 2] = [
+        (interleave, interleave_to_vec),
+        (deinterleave, deinterleave_to_vec),
+    ];
+    for (into_buffer, into_vec) in forms {
+        for (family, k, len) in CODES {
+            let object = bytes(k * len);
+            let mut out = vec![0; k * len];
+            into_buffer(family, k, len, &object, &mut out)?;
+            assert_eq!(into_vec(family, k, len, &object)?, out);
+            let refused = into_vec(family, k, len, &object[1..]);
+            assert_eq!(refused, Err(Refusal::BufferLength));
+        }
+        for (family, k, len) in [(0, 9, 0), (SIMPLEX, 9, 0), (SIMPLEX, 8, usize::MAX)] {
+            let wanted = into_buffer(family, k, len, &[], &mut []).unwrap_err();
+            assert_eq!(into_vec(family, k, len, &[]), Err(wanted));
+        }
+    }
+    Ok(())
+}
+
+#[test]
+fn an_interleaved_object_is_another_and_comes_back() -> Result<(), Refusal> {
+    for (family, k, len) in CODES {
+        let object = bytes(k * len);
+        let interleaved = interleave_to_vec(family, k, len, &object)?;
+        assert_eq!(interleaved == object, len == 1);
+        assert_eq!(deinterleave_to_vec(family, k, len, &interleaved)?, object);
     }
     Ok(())
 }

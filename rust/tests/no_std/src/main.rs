@@ -31,8 +31,10 @@ extern "C" fn main() -> c_int {
 }
 
 fn store_and_repair() -> Result<(), Refusal> {
+    let mut interleaved = [0; 24];
+    mogtriz::interleave(SIMPLEX, 3, 8, OBJECT, &mut interleaved)?;
     let mut nodes = [0; 7 * 8];
-    mogtriz::encode(SIMPLEX, 3, 8, OBJECT, &mut nodes)?;
+    mogtriz::encode(SIMPLEX, 3, 8, &interleaved, &mut nodes)?;
     let mut bytes = [0; 8 + 3 + 3 * 8];
     let session = Session::start(SIMPLEX, 3, 8, &[4, 5, 7])?;
     let mut list = [0; MOST_NODES];
@@ -53,8 +55,11 @@ fn store_and_repair() -> Result<(), Refusal> {
     assert!(plan.steps().map(|step| step.node).eq([1, 2, 3, 6]));
     assert!(session.run(&mut nodes)? == plan.repairs);
 
+    let mut read_out = [0; 24];
+    session.read_out(&nodes, &mut read_out)?;
+    assert!(read_out == interleaved);
     let mut object = [0; 24];
-    session.read_out(&nodes, &mut object)?;
+    mogtriz::deinterleave(SIMPLEX, 3, 8, &read_out, &mut object)?;
     assert!(object == *OBJECT);
     Ok(())
 }
