@@ -2,7 +2,8 @@
 //! Each function gives the call's number; those that go on from a session give the answer. As the Rust package leaves out a
 //! part of each answer, every call is made of C besides: it writes the same bytes again.
 use crate::guarded::Guarded;
-use crate::{boxes, graded, library, planner};
+use crate::samples::Shape;
+use crate::{boxes, graded, interleaving, library, planner};
 use mogtriz::raw::{self, Converted, Repairs, Session, Stepped};
 
 /// The bytes of a message, cut where they would fill the screen.
@@ -14,6 +15,47 @@ fn shown(bytes: &[u8]) -> String {
 /// A destination after a call: its bytes as the model left them, its guards as they were.
 fn written_as(lent: &Guarded, wanted: &[u8]) -> bool {
     lent.bytes() == wanted && lent.guards_untouched()
+}
+
+type Interleaving = fn(usize, usize, usize, &[u8], &mut [u8]) -> u8;
+
+/// The numbers may be out of range, and the lengths any.
+pub fn interleave(shape: Shape, object: &[u8], out_len: usize) -> u8 {
+    let calls = [library::interleave, raw::interleave];
+    let model = interleaving::interleave;
+    move_bytes("interleave", shape, object, out_len, model, calls)
+}
+
+/// The same for the reverse.
+pub fn deinterleave(shape: Shape, object: &[u8], out_len: usize) -> u8 {
+    let calls = [library::deinterleave, raw::deinterleave];
+    let model = interleaving::deinterleave;
+    move_bytes("deinterleave", shape, object, out_len, model, calls)
+}
+
+fn move_bytes(
+    name: &str,
+    shape: Shape,
+    object: &[u8],
+    out_len: usize,
+    model: Interleaving,
+    calls: [Interleaving; 2],
+) -> u8 {
+    let Shape { family, k, len } = shape;
+    let lent = Guarded::holding(object);
+    let mut out = Guarded::filled(out_len);
+    let mut expected = out.bytes().to_vec();
+    let wanted = model(family, k, len, object, &mut expected);
+    let place = || format!("{name} {shape:?} {} into {out_len}", shown(object));
+    for call in calls {
+        out.restore();
+        let got = call(family, k, len, lent.bytes(), out.bytes_mut());
+        assert_eq!(got, wanted, "{}", place());
+        let as_wanted = written_as(&out, &expected);
+        assert!(as_wanted, "{}: the bytes differ", place());
+    }
+    assert!(lent.untouched(), "{}: the object was written to", place());
+    wanted
 }
 
 pub fn start(family: usize, k: usize, len: usize, list: &[u8]) -> u8 {

@@ -6,6 +6,7 @@ pub mod boxes;
 pub mod calls;
 pub mod graded;
 pub mod guarded;
+pub mod interleaving;
 pub mod library;
 pub mod live_sets;
 pub mod open;

@@ -10,6 +10,14 @@ pub fn encode(family: usize, k: usize, len: usize, object: &[u8], nodes: &mut [u
     number(mogtriz::encode(family, k, len, object, nodes))
 }
 
+pub fn interleave(family: usize, k: usize, len: usize, object: &[u8], out: &mut [u8]) -> u8 {
+    number(mogtriz::interleave(family, k, len, object, out))
+}
+
+pub fn deinterleave(family: usize, k: usize, len: usize, object: &[u8], out: &mut [u8]) -> u8 {
+    number(mogtriz::deinterleave(family, k, len, object, out))
+}
+
 pub fn node_count(family: usize, k: usize) -> usize {
     mogtriz::node_count(family, k).unwrap_or(0)
 }

@@ -35,6 +35,15 @@ pub fn node_count(family: usize, k: usize) -> usize {
     }
 }
 
+/// How many nodes may be lost, whichever they are, so that all come back, for one of the three families at a k in its range.
+pub fn may_be_lost(family: usize, k: usize) -> usize {
+    match family {
+        1 => (1 << (k - 1)) - 1,
+        2 => k - 1,
+        _ => 6,
+    }
+}
+
 /// A code and its generator matrix: a row for each data block, an entry in it for each node.
 pub struct Code {
     pub family: usize,

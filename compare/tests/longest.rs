@@ -72,11 +72,17 @@ impl Case {
         number
     }
 
-    /// What encode and start give.
-    fn numbers(&self) -> [u8; 2] {
+    /// What encode and start give, and interleaving there and back.
+    fn numbers(&self) -> [u8; 4] {
         let Shape { family, k, .. } = self.shape;
-        let start = calls::start(family, k, self.len, &self.live());
-        [self.encode(), start]
+        let len = self.len;
+        let (shape, room) = (Shape { family, k, len }, self.object.len());
+        [
+            self.encode(),
+            calls::start(family, k, len, &self.live()),
+            calls::interleave(shape, &self.object, room),
+            calls::deinterleave(shape, &self.object, room),
+        ]
     }
 
     /// What check, read and the body of a node give of a box, whose two bytes have this L.
@@ -120,14 +126,14 @@ impl Case {
     }
 }
 
-/// Every call at these L: encode, start and boxes have to give one number, and calls with a session another.
+/// Every call at these L: encode, start, interleaving and boxes have to give one number, and calls with a session another.
 fn hold_every_call(lens: &[usize], number: u8, in_session: u8) {
     let random = &mut Random::seeded();
     for (family, k) in [(1, 2), (1, 3), (2, 2), (2, 5), (3, 4)] {
         for &len in lens {
             let case = Case::new(family, k, len, random);
             let place = format!("family {family} k {k} L {len}");
-            assert_eq!(case.numbers(), [number; 2], "{place}");
+            assert_eq!(case.numbers(), [number; 4], "{place}");
             let numbers = case.numbers_in_a_session(random);
             assert_eq!(numbers, [in_session; 6], "{place}");
             if len < 1 << 16 {

@@ -1,22 +1,14 @@
 //! How many nodes may be lost, whichever they are, so that all come back (docs/FORMAT.md): every such loss of the codes with
 //! few nodes, and many of the others. With one node more some losses are too many.
-use compare::papers::{columns_of, every_code};
+use compare::papers::{columns_of, every_code, may_be_lost};
 use compare::random::Random;
-use mogtriz::{PLAN_ROOM, SIMPLEX, Session, WEIGHT_TWO};
+use mogtriz::{PLAN_ROOM, Session};
 
 /// Up to so many nodes every loss is tried.
 const FEW: usize = 15;
 
 /// So many losses are tried of each code with more nodes.
 const TRIES: usize = 2000;
-
-fn may_be_lost(family: usize, k: usize) -> usize {
-    match family {
-        SIMPLEX => (1 << (k - 1)) - 1,
-        WEIGHT_TWO => k - 1,
-        _ => 6,
-    }
-}
 
 /// The nodes left by the plan where the nodes that `lost` picks are missing.
 fn left(family: usize, k: usize, lost: impl Fn(usize) -> bool) -> usize {
