@@ -1,16 +1,19 @@
-//! Encoding, boxes, lists of live nodes, plans, runs and relations, timed against other ways to fill the same buffers; with
-//! `--count`, the instructions of one call of each; with `--related`, what a relation takes for every triple of weight-two 22.
+//! Encoding, interleaving, boxes, lists of live nodes, plans, runs and relations, timed against other ways to fill the same
+//! buffers; with `--count`, the instructions of one call of each; with `--related`, what a relation takes for every triple of
+//! weight-two 22.
 mod boxes;
 mod callgrind;
 mod counting;
 mod each_triple;
 mod encoding;
+mod interleaving;
 mod isal;
 mod relations;
 mod repairs;
 mod rivals;
 mod table;
 mod timing;
+mod wide;
 
 use compare::random::Random;
 use std::{env, io, process};
@@ -36,7 +39,7 @@ fn main() -> io::Result<()> {
     Ok(())
 }
 
-fn tables(mut meter: Meter) -> [Table; 10] {
+fn tables(mut meter: Meter) -> [Table; 12] {
     let mut random = Random::seeded();
     let [read, write] = boxes::tables(&mut random, &mut meter);
     let encode = encoding::table(&mut random, &mut meter);
@@ -46,8 +49,11 @@ fn tables(mut meter: Meter) -> [Table; 10] {
     let relate = relations::table(&mut random, &mut meter);
     let list = boxes::live_lists(&mut random, &mut meter);
     let [from_graded, to_graded] = boxes::conversions(&mut random, &mut meter);
+    let [interleave, deinterleave] = interleaving::tables(&mut random, &mut meter);
     [
         encode,
+        interleave,
+        deinterleave,
         read,
         write,
         from_graded,
