@@ -4,6 +4,7 @@
 mod boxed;
 mod call_list;
 mod input;
+mod interleaved;
 mod seen;
 
 use input::Input;
@@ -16,9 +17,10 @@ pub unsafe extern "C" fn LLVMFuzzerTestOneInput(data: *const u8, size: usize) ->
     // SAFETY: as the fuzzer says.
     let bytes = unsafe { std::slice::from_raw_parts(data, size) };
     let mut input = Input(bytes);
-    match input.byte() % 2 {
+    match input.byte() % 3 {
         0 => boxed::compare(&mut input),
-        _ => call_list::compare(&mut input),
+        1 => call_list::compare(&mut input),
+        _ => interleaved::compare(&mut input),
     }
     0
 }

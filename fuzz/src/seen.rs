@@ -6,6 +6,8 @@ use std::sync::atomic::{AtomicUsize, Ordering::Relaxed};
 
 #[derive(Clone, Copy)]
 pub enum Operation {
+    Interleave,
+    Deinterleave,
     Start,
     Check,
     Read,
@@ -20,7 +22,9 @@ pub enum Operation {
     Run,
 }
 
-const NAMES: [&str; 12] = [
+const NAMES: [&str; 14] = [
+    "interleave",
+    "deinterleave",
     "start",
     "check",
     "read",
@@ -57,6 +61,6 @@ extern "C" fn print() {
         let cells: Vec<String> = seen
             .map(|(number, count)| format!("{number}: {count}"))
             .collect();
-        println!("{name:<11} {}", cells.join("  "));
+        println!("{name:<12} {}", cells.join("  "));
     }
 }
