@@ -152,18 +152,18 @@ MOGTRIZ_CALL uint8_t mogtriz_encode(size_t family, size_t k, size_t len, const u
  */
 
 /*
- * An object interleaved: byte t of it, from 0, goes to block t % k + 1 at place t / k, which is byte t % k * len + t / k of `out`. So
+ * An object interleaved: byte t of it, from 0, goes to block t % k + 1 at place t / k, which is byte (t % k) * len + t / k of `out`. So
  * `out` is k blocks of len bytes, an object for mogtriz_encode. With k 3 and len 2, abcdef becomes adbecf.
- * `out` is another buffer: no object is interleaved in place.
- * Gives 0 or: 1, 2, 3, then 6 where object_len or out_len is not k * len.
+ * `out` is another buffer, with no byte of the object's: no object is interleaved in place.
+ * Gives 0 or: 1, 2, 3, then 6 where object_len or out_len is not k * len. A refusal writes nothing.
  */
 MOGTRIZ_CALL uint8_t mogtriz_interleave(size_t family, size_t k, size_t len, const uint8_t *object, size_t object_len, uint8_t *out,
                                         size_t out_len);
 
 /*
- * The reverse: byte t % k * len + t / k of an object becomes byte t of `out`. Its answers are those of mogtriz_interleave, in the same
+ * The reverse: byte (t % k) * len + t / k of an object becomes byte t of `out`. Its answers are those of mogtriz_interleave, in the same
  * order, and an object that is interleaved and then deinterleaved, or the other way round, has the same bytes. One that was not
- * interleaved is accepted too, and comes out with its bytes in wrong places.
+ * interleaved is accepted too, and where len is above 1 it comes out with bytes in wrong places.
  */
 MOGTRIZ_CALL uint8_t mogtriz_deinterleave(size_t family, size_t k, size_t len, const uint8_t *object, size_t object_len, uint8_t *out,
                                           size_t out_len);

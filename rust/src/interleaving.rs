@@ -42,8 +42,8 @@ pub fn interleave(
 ///
 /// Byte (t mod k) × L + t div k of the object becomes byte t of `out`. Both buffers are exactly k × L bytes
 /// ([`object_len`](crate::object_len)), and every byte of `out` is written. An object that is interleaved and then deinterleaved,
-/// or the other way round, has the same bytes. One that was not interleaved is accepted too, and comes out with its bytes in
-/// wrong places: a box does not tell, and the caller has to know.
+/// or the other way round, has the same bytes. One that was not interleaved is accepted too, and where L is above 1 it comes out
+/// with bytes in wrong places: a box does not tell, and the caller has to know.
 ///
 /// # Errors
 ///
