@@ -6,9 +6,10 @@ use compare::samples::Shape;
 use compare::{calls, library};
 use mogtriz::{Refusal, Session, encode_to_vec, raw};
 
-/// Every L up to 17, one at the end of a byte, and the two largest.
+/// Every L up to 130, past the sizes of the library's tiles, which are powers of two up to 128, one at the end of a byte, and the two
+/// largest.
 fn lengths() -> impl Iterator<Item = usize> {
-    (1..=17).chain([255, MOST_LENGTH - 1, MOST_LENGTH])
+    (1..=130).chain([255, MOST_LENGTH - 1, MOST_LENGTH])
 }
 
 /// Every family and k at each L.
@@ -87,7 +88,7 @@ fn every_byte_goes_to_its_block_and_place_and_back() {
         }
     }
     println!("{count} bytes in their places");
-    assert_eq!(every_shape().len(), 29 * 20);
+    assert_eq!(every_shape().len(), 29 * 133);
 }
 
 // ---- against the model
