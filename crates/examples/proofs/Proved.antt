@@ -18,6 +18,8 @@ use Rattle.checks.specs.Parameters.{mostL, parameterChecks}
 use Rattle.base.proofs.RangeLaws.{outside-no, length-listFrom, getD-listFrom}
 use Rattle.encoding.specs.Matrix.{nodeBlock, nodesBuffer}
 use Rattle.encoding.specs.Encode.{encodeChecks, encodeAnswer, encoded}
+use Rattle.interleaving.specs.Interleaved.{interleaved, deinterleaved, interleaveChecks, interleaveAnswer, outInterleaved}
+use Rattle.interleaving.proofs.Answers.{kept}
 use Rattle.lists.specs.Lists.{someOutside, rises, placeIn, setLive, someMissing, liveOutside}
 use Rattle.planning.specs.Pairs.{largerNode, smallerNode}
 use Rattle.planning.specs.Plan.{isRepaired, roundsFrom, planOf, marksAfter, stepBytes, lastRound, nodesLeft}
@@ -39,7 +41,7 @@ use Rattle.repair.proofs.StartLaws.{nodes-0}
 use Rattle.repair.proofs.RepairsLaws.{plan-made, run-made}
 use Rattle.listing.specs.Text.{decimal, field, firstLine, stepLine, lastLine, refusalLine}
 use Rattle.listing.specs.Listing.{answerOf, listingIn, listingOf}
-use Rattle.examples.specs.Examples.{Row, Encodes, Plans, Starts, BoxGives, BoxReads, BoxHolds, BoxLacks, BoxSteps, BoxWrites, BoxNames, Converts, ConvertGives, Lists, allBut, HasPlan, Holds, Every, table, Examples}
+use Rattle.examples.specs.Examples.{Row, Encodes, Interleaves, InterleaveGives, Plans, Starts, BoxGives, BoxReads, BoxHolds, BoxLacks, BoxSteps, BoxWrites, BoxNames, Converts, ConvertGives, Lists, allBut, HasPlan, Holds, Every, table, Examples}
 
 -- ---- a plan
 
@@ -102,6 +104,10 @@ Each box So = (byte : ℕ → ℕ) → So (checkedBox box .session) (listFrom by
 abbrev Computed : Row → Type 0
 Computed (Encodes family k L object nodes) =
     (firstMet (encodeChecks family k L (length object) (length nodes)) ≡ 0) × (nodesBuffer (familyOf family) k L object ≡ nodes)
+Computed (Interleaves family k L object other) =
+    (firstMet (interleaveChecks family k L (length object) (length object)) ≡ 0) × (interleaved k L object ≡ other)
+    × (firstMet (interleaveChecks family k L (length other) (length object)) ≡ 0) × (deinterleaved k L other ≡ object)
+Computed (InterleaveGives family k L size room number) = (firstMet (interleaveChecks family k L size room) ≡ number) × (eqb number 0 ≡ false)
 Computed (Plans family k list steps rounds left) =
     (firstMet (startChecks family k 1 list) ≡ 0) × (noStart (sessionOf family k 1 list) ≡ false) × HasFigures (sessionOf family k 1 list) steps rounds left
 Computed (Starts family k L list number) = Holds (Starts family k L list number)
@@ -129,8 +135,13 @@ Computed (Lists box text) = Holds (Lists box text)
 
 -- and what follows
 holds : (row : Row) → Computed row → Holds row
-unfolding encodeAnswer encoded started startChecks noStart
+unfolding encodeAnswer encoded interleaveAnswer outInterleaved started startChecks noStart
 holds (Encodes family k L object nodes) (a, is) = λ buffer e. (rw (e, a), rw (e, a, is))
+holds (Interleaves family k L object other) (a, is, b, back) = λ out e. (rw (e, a), rw (e, a, is), rw (e, b), rw (e, b, back))
+holds (InterleaveGives family k L size room number) (is, some) = λ bytes out e f.
+    let given : firstMet (interleaveChecks family k L (length bytes) (length out)) ≡ number = rw (e, f) is in
+    let met : firstMet (interleaveChecks family k L (length bytes) (length out)) ≡ 0 → ⊥ = λ z. eqb-false number 0 some (sym given ∙ z) in
+    (given, kept family k L bytes out interleaved met, kept family k L bytes out deinterleaved met)
 holds (Plans family k list steps rounds left) (a, start, figures) = λ L h g.
     let same = same-checks family k L h g in
     (rw (same, a), has-plan (sessionOf family k L list) steps rounds left (rw same start) figures)
@@ -162,7 +173,7 @@ _&_ : {A B : Type 0} → A → B → A × B
 a & b = (a, b)
 
 computed : Every Computed table
-unfolding started refusalLine encodeChecks parameterChecks firstMet nodesBuffer joined nodeBlock columnOf nodeCount xorBytes zipWith startChecks checkedBox boxChecks someOutside rises setLive noStart liveOutside planOf roundsFrom isRepaired smallerNode largerNode firstFrom areRelated pairAt stepBytes lastRound getLastD nodesLeft thoseFrom someMissing stepsIn placeIn listFrom readBox nodesRead readChecks withBodies withBlock blockOf bodyChecks bodyOf writeChecks nodesChecks written outWritten boxOf flatMap liveChecks liveListed outListed stepChecks stepped nodesStepped listingOf answerOf listingIn firstLine stepLine lastLine field decimal converted outConverted conversionChecks renumbered newNames newBody nodeOf gradedTable below
+unfolding started refusalLine encodeChecks parameterChecks firstMet nodesBuffer joined nodeBlock columnOf nodeCount xorBytes zipWith startChecks checkedBox boxChecks someOutside rises setLive noStart liveOutside planOf roundsFrom isRepaired smallerNode largerNode firstFrom areRelated pairAt stepBytes lastRound getLastD nodesLeft thoseFrom someMissing stepsIn placeIn listFrom readBox nodesRead readChecks withBodies withBlock blockOf bodyChecks bodyOf writeChecks nodesChecks written outWritten boxOf flatMap liveChecks liveListed outListed stepChecks stepped nodesStepped listingOf answerOf listingIn firstLine stepLine lastLine field decimal converted outConverted conversionChecks renumbered newNames newBody nodeOf gradedTable below interleaveChecks interleaved deinterleaved
 computed =
     (refl, refl)
     & (refl, λ byte. (refl, refl))
@@ -191,6 +202,14 @@ computed =
     & (λ out l. (rw l, rw l, rw l, rw l))
     & (λ out l. (rw l, rw l, rw l, rw l))
     & (λ out l. (rw l, rw l, rw l, rw l))
+    & (refl, refl)
+    & (refl, refl)
+    & (refl, refl)
+    & (refl, refl)
+    & (refl, refl, refl, refl)
+    & (refl, refl, refl, refl)
+    & (refl, refl, refl, refl)
+    & (refl, refl)
     & (refl, refl)
     & (refl, refl)
     & (refl, refl)

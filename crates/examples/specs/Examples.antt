@@ -1,5 +1,5 @@
--- The lettered examples of document 01, the box that it shows, and document 000's examples 2.1 and 3.1, rows of one table under one
--- statement.
+-- The lettered examples of document 01, the box that it shows, document 000's examples 2.1 and 3.1, and interleaved objects, rows of one
+-- table under one statement.
 use mathlib.Core.Path.{_≡_}
 use mathlib.Core.Bool.{not}
 use mathlib.Core.List.{List, [], _∷_, _++_}
@@ -11,6 +11,7 @@ use Rattle.lists.specs.Lists.{isIn}
 use Rattle.checks.specs.Checks.{firstMet}
 use Rattle.checks.specs.Parameters.{mostL}
 use Rattle.encoding.specs.Encode.{encodeAnswer, encoded}
+use Rattle.interleaving.specs.Interleaved.{interleaved, deinterleaved, interleaveAnswer, outInterleaved}
 use Rattle.planning.specs.Made.{nodesMade, stepsIn}
 use Rattle.boxes.specs.Box.{blockLengthIn, nodeCountIn, bodyChecks, bodyStart, bodyOf}
 use Rattle.conversion.specs.Converted.{fromGraded, toGraded, converted, outConverted}
@@ -29,6 +30,10 @@ use Rattle.listing.specs.Listing.{listingOf}
 pub data Row : Type 0 where
   -- family, k, L, an object, and its nodes
   Encodes : ℕ → ℕ → ℕ → List ℕ → List ℕ → Row
+  -- family, k, L, an object, and the object interleaved
+  Interleaves : ℕ → ℕ → ℕ → List ℕ → List ℕ → Row
+  -- family, k, L and the lengths of two buffers; the number that interleaving from the one to the other gives, and its inverse
+  InterleaveGives : ℕ → ℕ → ℕ → ℕ → ℕ → ℕ → Row
   -- family, k and the live nodes; at every L, the plan's steps, four numbers each, its rounds, and the nodes left
   Plans : ℕ → ℕ → List ℕ → List ℕ → ℕ → List ℕ → Row
   -- family, k, L and a node list; the number that the start gives
@@ -80,6 +85,15 @@ InBox box So = (nodes : List ℕ) → length nodes ≡ nodeCountIn box * blockLe
 abbrev pub Holds : Row → Type 0
 Holds (Encodes family k L object nodes) =
     (buffer : List ℕ) → length buffer ≡ length nodes → (encodeAnswer family k L object buffer ≡ 0) × (encoded family k L object buffer ≡ nodes)
+-- each becomes the other
+Holds (Interleaves family k L object other) =
+    (out : List ℕ) → length out ≡ length object
+    → (interleaveAnswer family k L object out ≡ 0) × (outInterleaved interleaved family k L object out ≡ other)
+    × (interleaveAnswer family k L other out ≡ 0) × (outInterleaved deinterleaved family k L other out ≡ object)
+-- nothing is written
+Holds (InterleaveGives family k L size room number) =
+    (bytes out : List ℕ) → length bytes ≡ size → length out ≡ room
+    → (interleaveAnswer family k L bytes out ≡ number) × (outInterleaved interleaved family k L bytes out ≡ out) × (outInterleaved deinterleaved family k L bytes out ≡ out)
 Holds (Plans family k list steps rounds left) =
     (L : ℕ) → 1 ≤ L → L ≤ mostL
     → (started family k L list ≡ acceptedStart (sessionOf family k L list)) × HasPlan (sessionOf family k L list) steps rounds left
@@ -183,6 +197,17 @@ table =
     ∷ ConvertGives (1 ∷ 3 ∷ 1 ∷ 0 ∷ 3 ∷ 0 ∷ 0 ∷ 0 ∷ 4 ∷ 5 ∷ 7 ∷ 4 ∷ 5 ∷ []) 0 7
     ∷ ConvertGives (3 ∷ 4 ∷ 1 ∷ 0 ∷ 2 ∷ 0 ∷ 0 ∷ 0 ∷ 4 ∷ 8 ∷ 9 ∷ 6 ∷ []) 12 1
     ∷ ConvertGives (3 ∷ 4 ∷ 1 ∷ 0 ∷ 2 ∷ 0 ∷ 0 ∷ 0 ∷ 4 ∷ 8 ∷ 9 ∷ 6 ∷ []) 0 1
+    -- Bytes 0 and 3 of an object with k 3 and L 2 go to block 1, 1 and 4 to block 2, 2 and 5 to block 3; with k 2 and L 3 block 1 gets
+    -- bytes 0, 2 and 4; with L 1 each byte stays (document 02, K3)
+    ∷ Interleaves 1 3 2 (10 ∷ 11 ∷ 12 ∷ 13 ∷ 14 ∷ 15 ∷ []) (10 ∷ 13 ∷ 11 ∷ 14 ∷ 12 ∷ 15 ∷ [])
+    ∷ Interleaves 2 2 3 (10 ∷ 11 ∷ 12 ∷ 13 ∷ 14 ∷ 15 ∷ []) (10 ∷ 12 ∷ 14 ∷ 11 ∷ 13 ∷ 15 ∷ [])
+    ∷ Interleaves 3 4 1 (10 ∷ 11 ∷ 12 ∷ 13 ∷ []) (10 ∷ 11 ∷ 12 ∷ 13 ∷ [])
+    -- With k 3 and L 2, an object of 5 bytes gives 6, and so does a destination of 7; before that come 3, 2 and 1
+    ∷ InterleaveGives 1 3 2 5 6 6
+    ∷ InterleaveGives 1 3 2 6 7 6
+    ∷ InterleaveGives 1 3 1537 6 6 3
+    ∷ InterleaveGives 2 23 0 6 6 2
+    ∷ InterleaveGives 4 23 0 6 6 1
     -- The box above makes the lister print, whole, these six lines
     ∷ Lists sampleBox "family 1 k 3 length 1 live 3\n1 1 4 5\n1 2 5 7\n1 3 4 7\n2 6 1 7\nsteps 4 rounds 2 left 0\n"
     -- Weight-two 4 and the tetrahedron with an object whose data block i is 2^(i − 1): each node holds its column
