@@ -12,8 +12,7 @@ use native.Mathlib.Omega.{arith}
 use borrow.Author.Tests.{ltb-false, lt-ltb, le-ltb}
 use lib.Dec.{ltb}
 use lib.ListN.{length, getD}
-use Rattle.base.specs.Ranges.{outside, firstFrom, thoseFrom}
-use Rattle.base.specs.Inner.{listFrom}
+use Rattle.base.specs.Ranges.{outside, firstFrom, thoseFrom, listFrom}
 use Rattle.base.proofs.Tests.{or-neither}
 use Rattle.base.proofs.First.{first-zero}
 

@@ -9,9 +9,8 @@ use borrow.Author.Tests.{le-ltb, eqb-false}
 use lib.Dec.{ltb, eqb}
 use lib.ListN.{length, getD, drop}
 use lib.Seq.{ext-getD}
-use Rattle.base.specs.Ranges.{firstFrom, thoseFrom}
+use Rattle.base.specs.Ranges.{firstFrom, thoseFrom, listFrom}
 use Rattle.families.specs.Families.{familyOf, nodeCount, columnOf, nodeOf, pairAt, areRelated}
-use Rattle.base.specs.Inner.{listFrom}
 use Rattle.blocks.specs.Blocks.{joined, xorBytes, blockOf, withBlock}
 use Rattle.checks.specs.Checks.{firstMet}
 use Rattle.checks.specs.Parameters.{mostL, parameterChecks}

@@ -12,7 +12,7 @@ use lib.ListN.{length, getD, set, replicate, length-set}
 use lib.Seq.{ext-getD, getD-set-same, getD-set-other}
 use Rattle.families.proofs.Laws.{few}
 use Rattle.families.specs.Families.{KInRange, IsNode, nodeCount, columnOf}
-use Rattle.base.specs.Inner.{listFrom}
+use Rattle.base.specs.Ranges.{listFrom}
 use Rattle.base.proofs.RangeLaws.{length-listFrom, getD-listFrom}
 use Rattle.families.specs.Inner.{columnTable}
 use Rattle.families.specs.declared.Family.{Family}

@@ -3,7 +3,7 @@ use Prim.Native.Nat.{ℕ, zero, suc, _^_}
 use mathlib.Core.Bool.{cond, _&&_}
 use mathlib.Core.List.{List}
 use lib.Dec.{leb}
-use Rattle.base.specs.Inner.{listFrom}
+use Rattle.base.specs.Ranges.{listFrom}
 use Rattle.families.specs.Families.{nodeCount, columnOf}
 use Rattle.families.specs.declared.Family.{Family}
 

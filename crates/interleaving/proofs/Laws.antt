@@ -10,12 +10,11 @@ use native.Mathlib.Decide.{decLt, ℕ-discrete}
 use native.Mathlib.Omega.{arith}
 use lib.ListN.{length, getD}
 use lib.Seq.{getD-take, getD-drop}
-use Rattle.base.specs.Inner.{listFrom}
+use Rattle.base.specs.Ranges.{listFrom}
 use Rattle.base.proofs.RangeLaws.{length-listFrom, getD-listFrom}
 use Rattle.blocks.specs.Blocks.{joined, blockOf}
 use Rattle.blocks.proofs.JoinedLaws.{length-joined, block-of-joined}
-use Rattle.transposition.specs.Transposed.{transposed}
-use Rattle.transposition.specs.Inner.{Right}
+use Rattle.transposition.specs.Inner.{transposed, Right}
 use Rattle.transposition.proofs.Places.{place-div, place-mod, place-lt, place-of}
 use Rattle.transposition.proofs.TransposeLaws.{length-transposed, transposed-at, is-transposed, transposed-twice}
 use Rattle.interleaving.specs.Interleaved.{blockFor, interleaved, deinterleaved}

@@ -4,7 +4,7 @@ use mathlib.Core.Bool.{not, _&&_}
 use mathlib.Core.List.{List, [], _∷_, _++_}
 use lib.ListN.{length, getD}
 use lib.Dec.{eqb}
-use Rattle.base.specs.Inner.{listFrom}
+use Rattle.base.specs.Ranges.{listFrom}
 use Rattle.checks.specs.Checks.{Check, _gives_, firstMet, afterwards}
 use Rattle.checks.specs.Parameters.{parameterChecks}
 use Rattle.blocks.specs.Blocks.{joined, blockOf}

@@ -11,7 +11,7 @@ use lib.ListN.{length, getD, replicate, length-replicate, getD-replicate, List·
 use lib.Seq.{ext-getD}
 use Rattle.families.specs.declared.Family.{Family}
 use Rattle.families.specs.Families.{IsNode, columnOf}
-use Rattle.base.specs.Inner.{listFrom}
+use Rattle.base.specs.Ranges.{listFrom}
 use Rattle.base.proofs.RangeLaws.{length-listFrom, getD-listFrom}
 use Rattle.encoding.specs.Matrix.{nodeBlock}
 use Rattle.encoding.proofs.Linear.{hasBit, xorOver, node-byte, length-nodeBlock}

@@ -10,8 +10,7 @@ use borrow.Author.Tests.{ltb-true, lt-ltb, eqb-true, eqb-false, eq-eqb, ne-eqb, 
 use lib.Dec.{eqb}
 use lib.ListN.{length, getD, set, take, drop, length-set, drop-of-length-le, replicate, getD-replicate}
 use lib.Seq.{drop-cons, ext-getD, getD-set-same, getD-set-other}
-use Rattle.base.specs.Ranges.{thoseFrom}
-use Rattle.base.specs.Inner.{listFrom}
+use Rattle.base.specs.Ranges.{thoseFrom, listFrom}
 use Rattle.base.proofs.Tests.{and-left, and-right, not-both, is-false}
 use Rattle.base.proofs.RangeLaws.{count-one, length-listFrom, getD-listFrom}
 use Rattle.lists.specs.Lists.{someOutside, rises, placeIn, isIn}

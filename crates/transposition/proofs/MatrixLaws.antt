@@ -9,8 +9,7 @@ use native.Mathlib.Decide.{decLt}
 use native.Mathlib.Omega.{arith}
 use borrow.Author.Count.{below-more}
 use lib.ListN.{length, getD}
-use Rattle.transposition.specs.Transposed.{transposed}
-use Rattle.transposition.specs.Inner.{PiecesIn, Right, Nears, TileIn, Start, Suits, Spans}
+use Rattle.transposition.specs.Inner.{transposed, PiecesIn, Right, Nears, TileIn, Start, Suits, Spans}
 use Rattle.transposition.proofs.Places.{row-end, place-lt}
 use Rattle.transposition.proofs.TransposeLaws.{length-transposed, transposed-at, is-transposed}
 

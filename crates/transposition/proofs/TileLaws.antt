@@ -10,8 +10,7 @@ use borrow.Author.Count.{below-more}
 use borrow.Rule.Slice.PartMut.{midOf, putMid}
 use lib.ListN.{length, getD}
 use Rattle.blocks.proofs.PartLaws.{length-mid}
-use Rattle.transposition.specs.Transposed.{transposed}
-use Rattle.transposition.specs.Inner.{PiecesIn, Right, Nears, Loaded, Stored, Turned, TileIn}
+use Rattle.transposition.specs.Inner.{transposed, PiecesIn, Right, Nears, Loaded, Stored, Turned, TileIn}
 use Rattle.transposition.proofs.Places.{row-end, place-of}
 use Rattle.transposition.proofs.TransposeLaws.{transposed-at}
 use Rattle.transposition.proofs.NearLaws.{getD-mid, put-inside, put-before}

@@ -10,8 +10,7 @@ use lib.Pow.{pow-add}
 use lib.ListN.{length, getD}
 use lib.Seq.{ext-getD}
 use Rattle.base.proofs.RangeLaws.{length-listFrom, getD-listFrom}
-use Rattle.transposition.specs.Transposed.{transposed}
-use Rattle.transposition.specs.Inner.{Right}
+use Rattle.transposition.specs.Inner.{transposed, Right}
 use Rattle.transposition.proofs.Places.{place-div, place-mod, place-lt, place-of}
 
 pub length-transposed : (rows columns : ℕ) (bytes : List ℕ) → length (transposed rows columns bytes) ≡ rows * columns

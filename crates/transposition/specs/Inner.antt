@@ -1,9 +1,18 @@
--- For inner functions: a buffer that becomes another byte by byte, in any order, and tiles of 128 bytes, a power of two of rows each.
+-- For inner functions: the transpose of a matrix of bytes; a buffer that becomes another byte by byte, in any order; and tiles of 128
+-- bytes, a power of two of rows each.
 use mathlib.Core.Path.{_≡_}
 use mathlib.Core.List.{List}
 use mathlib.Core.Logic.{_⊎_}
-use Prim.Native.Nat.{ℕ, _+_, _-_, _*_, _^_, _≤_, _<_}
+use Prim.Native.Nat.{ℕ, _+_, _-_, _*_, _/_, _%_, _^_, _≤_, _<_}
 use lib.ListN.{length, getD}
+use Rattle.base.specs.Ranges.{listFrom}
+
+-- ---- the transpose
+
+-- a matrix stands row by row: byte c of row r, both from 0, is at r × columns + c. Its transpose stands row by row too: byte u of it, byte
+-- u mod rows of its row u div rows, is byte u div rows of row u mod rows
+unfoldable pub transposed : ℕ → ℕ → List ℕ → List ℕ
+transposed rows columns bytes = listFrom (λ u. getD bytes (u % rows * columns + u / rows) 0) 0 (rows * columns)
 
 -- ---- pieces of a buffer
 

@@ -1,2 +1,1 @@
-pub mod Transposed
 pub mod Inner

@@ -3,8 +3,7 @@
 ghost use mathlib.Core.Path.{_≡_};
 ghost use Prim.Native.Nat.{_+_, _-_, _*_, _^_, _≤_, _<_};
 ghost use lib.ListN.{length};
-ghost use Rattle.transposition.specs.Transposed.{transposed};
-ghost use Rattle.transposition.specs.Inner.{PiecesIn, Nears, Strided, Loaded, Stored, Turned, TileIn, Start, Suits, Spans};
+ghost use Rattle.transposition.specs.Inner.{transposed, PiecesIn, Nears, Strided, Loaded, Stored, Turned, TileIn, Start, Suits, Spans};
 
 // `count` bytes of src from a place on, `stride` apart, become those of dst from a place on, `step` apart.
 fn copy_strided(

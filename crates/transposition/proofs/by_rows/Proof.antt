@@ -6,7 +6,7 @@ use native.Mathlib.Nat.{mul-comm}
 use native.Mathlib.Omega.{arith}
 use borrow.Author.Needs.{needs}
 use lib.ListN.{length}
-use Rattle.transposition.specs.Transposed.{transposed}
+use Rattle.transposition.specs.Inner.{transposed}
 use Rattle.transposition.proofs.Places.{row-end, place-lt}
 use Rattle.transposition.proofs.MatrixLaws.{RowsRight, row-goal, rows-more, all-rows}
 use Rattle.transposition.proofs.by_rows.Statement.{statement}

@@ -6,7 +6,7 @@ use native.Mathlib.Omega.{arith}
 use borrow.Author.Needs.{needs}
 use lib.ListN.{length}
 use lib.Pow.{pow-pos}
-use Rattle.transposition.specs.Transposed.{transposed}
+use Rattle.transposition.specs.Inner.{transposed}
 use Rattle.transposition.proofs.MatrixLaws.{RowsRight, rows-more, all-rows, further}
 use Rattle.transposition.proofs.by_tiles.Statement.{statement}
 use Rattle.transposition.proofs.by_tiles.Tie as tie

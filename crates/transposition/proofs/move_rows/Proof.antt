@@ -7,8 +7,7 @@ use native.Mathlib.Omega.{arith}
 use borrow.Author.Needs.{needs}
 use lib.ListN.{length}
 use lib.Pow.{pow-pos}
-use Rattle.transposition.specs.Transposed.{transposed}
-use Rattle.transposition.specs.Inner.{Nears, TileIn}
+use Rattle.transposition.specs.Inner.{transposed, Nears, TileIn}
 use Rattle.transposition.proofs.NearLaws.{near-none}
 use Rattle.transposition.proofs.MatrixLaws.{tile-goal, tile-in, near-after, further}
 use Rattle.transposition.proofs.move_rows.Statement.{statement}

@@ -7,7 +7,7 @@ use borrow.Author.Needs.{needs}
 use mathlib.Core.List.{List}
 use lib.ListN.{length, getD, set}
 use Rattle.base.proofs.Fill.{filled, fill-more, fill-done}
-use Rattle.transposition.specs.Transposed.{transposed}
+use Rattle.transposition.specs.Inner.{transposed}
 use Rattle.transposition.proofs.TransposeLaws.{length-transposed, transposed-at}
 use Rattle.transposition.proofs.shuffle.Statement.{statement}
 use Rattle.transposition.proofs.shuffle.Tie as tie

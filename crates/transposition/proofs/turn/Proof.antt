@@ -5,7 +5,7 @@ use Prim.Native.Nat.{ℕ, _+_, _-_, _*_, _^_, _≤_, _<_}
 use native.Mathlib.Omega.{arith}
 use borrow.Author.Needs.{needs}
 use lib.ListN.{length, getD}
-use Rattle.transposition.specs.Transposed.{transposed}
+use Rattle.transposition.specs.Inner.{transposed}
 use Rattle.transposition.proofs.TransposeLaws.{transposed-one, transposed-more}
 use Rattle.transposition.proofs.turn.Statement.{statement}
 use Rattle.transposition.proofs.turn.Tie as tie
