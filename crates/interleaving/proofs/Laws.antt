@@ -3,9 +3,8 @@
 use mathlib.Core.Path.{_≡_, sym, ap, _∙_}
 use mathlib.Core.List.{List}
 use mathlib.Core.Logic.{_⊎_, inl, inr}
-use Prim.Native.Nat.{ℕ, suc, _+_, _-_, _*_, _/_, _%_, _≤_, _<_}
+use Prim.Native.Nat.{ℕ, _+_, _-_, _*_, _/_, _%_, _≤_, _<_}
 use native.Mathlib.Nat.{mul-comm, mod-lt, mod-eq-of-lt, mod-add-mod, mod-eq-sub-mod}
-use native.Mathlib.Numerals.{add-one}
 use native.Mathlib.Decide.{decLt, ℕ-discrete}
 use native.Mathlib.Omega.{arith}
 use lib.ListN.{length, getD}
@@ -14,8 +13,8 @@ use Rattle.base.specs.Ranges.{listFrom}
 use Rattle.base.proofs.RangeLaws.{length-listFrom, getD-listFrom}
 use Rattle.blocks.specs.Blocks.{joined, blockOf}
 use Rattle.blocks.proofs.JoinedLaws.{length-joined, block-of-joined}
-use Rattle.transposition.specs.Inner.{transposed, Right}
-use Rattle.transposition.proofs.Places.{place-div, place-mod, place-lt, place-of}
+use Rattle.transposition.specs.Inner.{transposed}
+use Rattle.transposition.proofs.Places.{place-div, place-mod, place-lt}
 use Rattle.transposition.proofs.TransposeLaws.{length-transposed, transposed-at, is-transposed, transposed-twice}
 use Rattle.interleaving.specs.Interleaved.{blockFor, interleaved, deinterleaved}
 use Rattle.interleaving.specs.Claims.{LostBlock, SameByte}

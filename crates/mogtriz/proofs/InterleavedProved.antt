@@ -1,15 +1,12 @@
 -- The claims of specs/Claims.antt about interleaved objects: what interleaving promises meets the whole way of an object.
 -- Assumes nothing.
-use mathlib.Core.Path.{_≡_, _∙_}
-use mathlib.Core.List.{List}
-use Prim.Native.Nat.{ℕ, _*_}
-use lib.ListN.{length}
+use mathlib.Core.Path.{_∙_}
 use Rattle.encoding.proofs.Proved.{encode-claim}
-use Rattle.interleaving.specs.Interleaved.{interleaved, deinterleaved, interleaveAnswer, outInterleaved}
+use Rattle.interleaving.specs.Interleaved.{interleaved, outInterleaved}
 use Rattle.interleaving.proofs.Laws.{length-interleaved}
 use Rattle.interleaving.proofs.Answers.{accepted-call, written}
 use Rattle.interleaving.proofs.Proved.{undone-claim}
-use Rattle.mogtriz.specs.Claims.{InterleavedObjectCClaim, PutBackC, InterleavedWayCClaim}
+use Rattle.mogtriz.specs.Claims.{InterleavedObjectCClaim, InterleavedWayCClaim}
 use Rattle.mogtriz.proofs.CallsProved.{whole-way-c-claim}
 
 pub interleaved-object-c-claim : InterleavedObjectCClaim

@@ -1,6 +1,6 @@
 -- A matrix whose transpose a buffer nears: a column, a row or a tile of it that is moved, and rows done so far.
 -- Assumes nothing.
-use mathlib.Core.Path.{_≡_, sym, ap, ap₂, _∙_}
+use mathlib.Core.Path.{_≡_, sym, ap, _∙_}
 use mathlib.Core.List.{List}
 use mathlib.Core.Logic.{⊎-elim}
 use Prim.Native.Nat.{ℕ, _+_, _-_, _*_, _^_, _≤_, _<_}
@@ -10,7 +10,7 @@ use native.Mathlib.Omega.{arith}
 use borrow.Author.Count.{below-more}
 use lib.ListN.{length, getD}
 use Rattle.transposition.specs.Inner.{transposed, PiecesIn, Right, Nears, TileIn, Start, Suits, Spans}
-use Rattle.transposition.proofs.Places.{row-end, place-lt}
+use Rattle.transposition.proofs.Places.{row-end}
 use Rattle.transposition.proofs.TransposeLaws.{length-transposed, transposed-at, is-transposed}
 
 -- the first rows are right, and the first columns

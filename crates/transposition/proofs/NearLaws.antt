@@ -2,15 +2,14 @@
 -- Assumes nothing.
 use mathlib.Core.Path.{_≡_, refl, sym, ap, _∙_}
 use mathlib.Core.List.{List, [], _∷_, _++_, append-assoc}
-use mathlib.Core.Logic.{_⊎_, inl, inr}
 use Prim.Native.Nat.{ℕ, zero, suc, _+_, _-_, _*_, _≤_, _<_}
 use native.Mathlib.Nat.{add-zero}
-use native.Mathlib.Decide.{decLt, ℕ-discrete}
+use native.Mathlib.Decide.{decLt}
 use native.Mathlib.Omega.{arith}
 use borrow.Author.Count.{below-more}
 use borrow.Rule.Slice.PartMut.{midOf, putMid, same-len-mid}
-use lib.ListN.{length, take, drop, getD, set, length-take, length-drop, length-append, length-set, List·getD-append}
-use lib.Seq.{getD-set-same, getD-set-other, getD-append-add, getD-take, getD-drop, drop-drop, length-take-le}
+use lib.ListN.{length, take, drop, getD, set, length-append, List·getD-append}
+use lib.Seq.{getD-append-add, getD-take, getD-drop, drop-drop, length-take-le}
 use Rattle.blocks.proofs.PartLaws.{length-mid, set-byte}
 use Rattle.transposition.specs.Inner.{Right, Nears}
 

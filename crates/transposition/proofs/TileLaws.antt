@@ -1,16 +1,15 @@
 -- Tiles: one row more loaded, and a tile that goes from pieces of one buffer to pieces of another.
 -- Assumes nothing.
-use mathlib.Core.Path.{_≡_, refl, sym, ap, _∙_}
+use mathlib.Core.Path.{_≡_, _∙_}
 use mathlib.Core.List.{List}
 use Prim.Native.Nat.{ℕ, zero, suc, _+_, _-_, _*_, _/_, _%_, _^_, _≤_, _<_}
 use native.Mathlib.Nat.{zero-mul}
 use native.Mathlib.Omega.{arith}
-use lib.Pow.{pow-add}
 use borrow.Author.Count.{below-more}
 use borrow.Rule.Slice.PartMut.{midOf, putMid}
 use lib.ListN.{length, getD}
 use Rattle.blocks.proofs.PartLaws.{length-mid}
-use Rattle.transposition.specs.Inner.{transposed, PiecesIn, Right, Nears, Loaded, Stored, Turned, TileIn}
+use Rattle.transposition.specs.Inner.{transposed, PiecesIn, Nears, Loaded, Stored, Turned}
 use Rattle.transposition.proofs.Places.{row-end, place-of}
 use Rattle.transposition.proofs.TransposeLaws.{transposed-at}
 use Rattle.transposition.proofs.NearLaws.{getD-mid, put-inside, put-before}

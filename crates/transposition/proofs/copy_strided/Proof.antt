@@ -1,11 +1,10 @@
 -- `transposition::copy_strided` meets its contract: before turn i the buffer has neared each goal by the first i bytes.
 -- Assumes nothing.
 use mathlib.Core.Path.{_≡_}
-use mathlib.Core.List.{List}
-use Prim.Native.Nat.{ℕ, _+_, _-_, _*_, _≤_, _<_}
+use Prim.Native.Nat.{_+_, _-_, _*_, _≤_, _<_}
 use native.Mathlib.Omega.{arith}
 use borrow.Author.Needs.{needs}
-use lib.ListN.{length, getD}
+use lib.ListN.{length}
 use Rattle.transposition.specs.Inner.{Strided}
 use Rattle.transposition.proofs.NearLaws.{near-none, near-byte}
 use Rattle.transposition.proofs.copy_strided.Statement.{statement}

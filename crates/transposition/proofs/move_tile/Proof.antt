@@ -1,7 +1,6 @@
 -- `transposition::move_tile` meets its contract: each number of rows has its own function.
 -- Assumes nothing.
-use mathlib.Core.Path.{_≡_, sym, subst}
-use Prim.Native.Nat.{ℕ}
+use mathlib.Core.Path.{_≡_}
 use native.Mathlib.Omega.{arith}
 use borrow.Author.Needs.{needs}
 use Rattle.transposition.proofs.move_tile.Statement.{statement}

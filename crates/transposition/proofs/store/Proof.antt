@@ -1,12 +1,12 @@
 -- `transposition::store` meets its contract: before turn i the buffer has neared each goal by the first i rows.
 -- Assumes nothing.
-use mathlib.Core.Path.{_≡_, sym, ap, _∙_}
-use Prim.Native.Nat.{ℕ, _+_, _-_, _*_, _≤_, _<_}
+use mathlib.Core.Path.{_≡_, sym, _∙_}
+use Prim.Native.Nat.{_+_, _-_, _*_, _≤_}
 use native.Mathlib.Nat.{add-sub-cancel-left}
 use native.Mathlib.Omega.{arith}
 use borrow.Author.Needs.{needs}
 use borrow.Rule.Slice.PartMut.{midOf}
-use lib.ListN.{length, getD}
+use lib.ListN.{length}
 use Rattle.blocks.proofs.PartLaws.{length-mid}
 use Rattle.transposition.specs.Inner.{Stored}
 use Rattle.transposition.proofs.Places.{row-end}

@@ -1,10 +1,9 @@
 -- `transposition::turn` meets its contract: after i shuffles the tile is the transpose of 2^i rows.
 -- Assumes nothing.
-use mathlib.Core.Path.{_≡_, sym, ap, _∙_}
-use Prim.Native.Nat.{ℕ, _+_, _-_, _*_, _^_, _≤_, _<_}
+use mathlib.Core.Path.{_≡_, sym, _∙_}
+use Prim.Native.Nat.{_-_, _^_, _≤_}
 use native.Mathlib.Omega.{arith}
 use borrow.Author.Needs.{needs}
-use lib.ListN.{length, getD}
 use Rattle.transposition.specs.Inner.{transposed}
 use Rattle.transposition.proofs.TransposeLaws.{transposed-one, transposed-more}
 use Rattle.transposition.proofs.turn.Statement.{statement}
