@@ -145,10 +145,10 @@ MOGTRIZ_CALL uint8_t mogtriz_encode(size_t family, size_t k, size_t len, const u
                                     size_t nodes_len);
 
 /*
- * Interleaving, for whoever wants a lost data block to take every k-th byte of an object and not len bytes in a row. It comes before an
- * encode, and its reverse after the object is read out. Nothing in nodes or in a box tells whether the object was interleaved: the
- * caller has to know, and to keep it as it keeps the true length. mogtriz_encode and mogtriz_read_out take and give the bytes as they
- * are.
+ * Interleaving, for whoever wants damage to one data block to fall on every k-th byte of an object and not on len bytes in a row. It
+ * comes before an encode, and its reverse after the object is read out. Nothing in nodes or in a box tells whether the object was
+ * interleaved: the caller has to know, and keeps that beside the true length. mogtriz_encode and mogtriz_read_out take and give the
+ * bytes as they are; a missing data block still gives 14.
  */
 
 /*

@@ -68,18 +68,24 @@ static void call_interleaving(void)
     EXPECT(memcmp(out, deposited, OBJECT) == 0 && out[OBJECT] == 0xaa);
 }
 
-/* Interleaved, encoded, all but nodes 4, 5 and 7 lost, repaired, read out, deinterleaved: the object that was put in. */
+/* Interleaved, encoded, nodes 4, 5 and 7 put away as a box, read, a step and a run made, read out, deinterleaved: the object that was put
+   in. */
 static void call_the_whole_way(void)
 {
     enum { TWO = 2, OBJECT = K * TWO, NODES = N * TWO };
     const uint8_t deposited[OBJECT] = {'a', 'b', 'c', 'd', 'e', 'f'};
-    uint8_t spread[OBJECT], nodes[NODES], read_out[OBJECT], received[OBJECT];
+    uint8_t spread[OBJECT], nodes[NODES], box[8 + 3 + 3 * TWO], read_out[OBJECT], received[OBJECT];
     EXPECT(mogtriz_interleave(MOGTRIZ_SIMPLEX, K, TWO, deposited, OBJECT, spread, OBJECT) == MOGTRIZ_SERVED);
     EXPECT(mogtriz_encode(MOGTRIZ_SIMPLEX, K, TWO, spread, OBJECT, nodes, NODES) == MOGTRIZ_SERVED);
-    memset(nodes, 0, 3 * TWO);
-    memset(nodes + 5 * TWO, 0, TWO);
     mogtriz_started started = mogtriz_start(MOGTRIZ_SIMPLEX, K, TWO, kept, sizeof kept);
-    mogtriz_repairs run = mogtriz_run(started.session, nodes, NODES);
+    mogtriz_written written = mogtriz_write(started.session, nodes, NODES, kept, sizeof kept, box, sizeof box);
+    EXPECT(written.refusal == MOGTRIZ_SERVED && written.length == sizeof box);
+    memset(nodes, 0, NODES);
+    mogtriz_started read = mogtriz_read(box, sizeof box, nodes, NODES);
+    EXPECT(read.refusal == MOGTRIZ_SERVED);
+    mogtriz_stepped stepped = mogtriz_step(read.session, nodes, NODES, 1, 4, 5);
+    EXPECT(stepped.refusal == MOGTRIZ_SERVED);
+    mogtriz_repairs run = mogtriz_run(stepped.session, nodes, NODES);
     EXPECT(run.refusal == MOGTRIZ_SERVED && run.left == 0);
     EXPECT(mogtriz_read_out(run.session, nodes, NODES, read_out, OBJECT).refusal == MOGTRIZ_SERVED);
     EXPECT(memcmp(read_out, spread, OBJECT) == 0);

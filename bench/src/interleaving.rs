@@ -3,22 +3,25 @@ use crate::rivals::{self, Family};
 use crate::table::{Line, Table};
 use crate::timing::{Aligned, Meter, Way};
 use crate::wide;
-use compare::interleaving;
+use compare::interleaving::{self, Interleaving};
 use compare::random::Random;
 use mogtriz::Refusal;
 
 const WAYS: [&str; 4] = ["Mogtriz", "Rust", "Rust wide", "memcpy"];
 
-/// The most that the library may take of the time of the plain loop; the others are recorded.
-const GOALS: [Option<f64>; 3] = [Some(1.1), None, None];
+/// The most that the library may take of the time of the plain loop, or none where that is recorded, as the others are.
+type Goal = Option<f64>;
+const GOAL: Goal = Some(1.1);
 
-const CASES: [(Family, usize, usize); 6] = [
-    (Family::Simplex, 2, 64),
-    (Family::Simplex, 2, 1536),
-    (Family::Simplex, 8, 64),
-    (Family::Simplex, 8, 1536),
-    (Family::WeightTwo, 22, 64),
-    (Family::WeightTwo, 22, 1536),
+const CASES: [(Family, usize, usize, Goal); 8] = [
+    (Family::Simplex, 2, 64, GOAL),
+    (Family::Simplex, 2, 1536, GOAL),
+    (Family::Simplex, 3, 1536, None),
+    (Family::Simplex, 5, 1536, None),
+    (Family::Simplex, 8, 64, GOAL),
+    (Family::Simplex, 8, 1536, GOAL),
+    (Family::WeightTwo, 22, 64, GOAL),
+    (Family::WeightTwo, 22, 1536, GOAL),
 ];
 
 type Call = fn(usize, usize, usize, &[u8], &mut [u8]) -> Result<(), Refusal>;
@@ -27,7 +30,7 @@ type Call = fn(usize, usize, usize, &[u8], &mut [u8]) -> Result<(), Refusal>;
 struct Direction {
     title: &'static str,
     call: Call,
-    model: fn(usize, usize, usize, &[u8], &mut [u8]) -> u8,
+    model: Interleaving,
     rust: fn(usize, usize, &[u8], &mut [u8]),
     wide: fn(usize, usize, &[u8], &mut [u8]),
 }
@@ -51,7 +54,7 @@ const DEINTERLEAVE: Direction = Direction {
 impl Direction {
     fn line(
         &self,
-        (family, k, len): (Family, usize, usize),
+        (family, k, len, goal): (Family, usize, usize, Goal),
         random: &mut Random,
         meter: &mut Meter,
     ) -> Line {
@@ -69,7 +72,7 @@ impl Direction {
         let mut out = Aligned::unfilled(k * len);
         Line {
             name: family.name(k, format!("L {len}")),
-            goals: GOALS.to_vec(),
+            goals: vec![goal, None, None],
             measured: meter.compare_and_measure(
                 &ways,
                 object.bytes(),

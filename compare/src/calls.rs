@@ -2,6 +2,7 @@
 //! Each function gives the call's number; those that go on from a session give the answer. As the Rust package leaves out a
 //! part of each answer, every call is made of C besides: it writes the same bytes again.
 use crate::guarded::Guarded;
+use crate::interleaving::Interleaving;
 use crate::samples::Shape;
 use crate::{boxes, graded, interleaving, library, planner};
 use mogtriz::raw::{self, Converted, Repairs, Session, Stepped};
@@ -16,8 +17,6 @@ fn shown(bytes: &[u8]) -> String {
 fn written_as(lent: &Guarded, wanted: &[u8]) -> bool {
     lent.bytes() == wanted && lent.guards_untouched()
 }
-
-type Interleaving = fn(usize, usize, usize, &[u8], &mut [u8]) -> u8;
 
 /// The numbers may be out of range, and the lengths any.
 pub fn interleave(shape: Shape, object: &[u8], out_len: usize) -> u8 {

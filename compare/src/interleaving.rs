@@ -1,6 +1,9 @@
 //! Interleaving from document 02, K3, alone: an object's bytes dealt out to k blocks by turns, and put back.
 use crate::papers::checked_node_count;
 
+/// A call of either direction: the family, k, L and the two buffers; it gives its number.
+pub type Interleaving = fn(usize, usize, usize, &[u8], &mut [u8]) -> u8;
+
 /// Byte t of the object, from 0, goes to block (t mod k) + 1 at place t div k.
 pub fn interleave(family: usize, k: usize, len: usize, object: &[u8], out: &mut [u8]) -> u8 {
     let number = answer(family, k, len, [object.len(), out.len()]);
@@ -14,7 +17,7 @@ pub fn interleave(family: usize, k: usize, len: usize, object: &[u8], out: &mut 
     number
 }
 
-/// The inverse: byte t comes from block (t mod k) + 1, its place t div k.
+/// The inverse: byte t comes from place t div k of block (t mod k) + 1.
 pub fn deinterleave(family: usize, k: usize, len: usize, object: &[u8], out: &mut [u8]) -> u8 {
     let number = answer(family, k, len, [object.len(), out.len()]);
     if number == 0 {

@@ -1,5 +1,6 @@
 //! Objects interleaved before they are encoded, and deinterleaved after they are read out (document 02, K3).
 use compare::boxes::block_at;
+use compare::interleaving::Interleaving;
 use compare::papers::{Code, MOST_LENGTH, every_code, may_be_lost, range_of_k};
 use compare::random::Random;
 use compare::samples::Shape;
@@ -23,8 +24,6 @@ fn every_shape() -> Vec<Shape> {
         .flat_map(with_each_length)
         .collect()
 }
-
-type Interleaving = fn(usize, usize, usize, &[u8], &mut [u8]) -> u8;
 
 /// By the package and from C.
 const INTERLEAVE: [Interleaving; 2] = [library::interleave, raw::interleave];
@@ -323,6 +322,14 @@ fn whole_way(shape: Shape, kept: &[u8], object: &[u8]) -> Result<Vec<u8>, Refusa
     let all = Session::start(family, k, len, &shape.all_nodes())?;
     let bytes = all.write_to_vec(&nodes, kept)?;
     let (mut session, mut nodes) = Session::read_to_vec(&bytes)?;
+    // every second step of the plan's first round, each made again, which is turned away, and a run for the rest
+    let (_, steps) = session.plan_to_vec()?;
+    let first_round = steps.iter().filter(|step| step.round == 1);
+    for step in first_round.step_by(2) {
+        session.step(&mut nodes, step.node, step.pair)?;
+        let again = session.step(&mut nodes, step.node, step.pair);
+        assert_eq!(again, Err(Refusal::AlreadyLive), "{shape:?} {step:?}");
+    }
     assert_eq!(session.run(&mut nodes)?.left, 0, "{shape:?} {kept:?}");
     let read_out = session.read_out_to_vec(&nodes)?;
     assert!(read_out == interleaved, "{shape:?}: what is read out");

@@ -3,6 +3,7 @@
 use crate::input::{Input, MOST_BYTES};
 use crate::seen::Operation::{Deinterleave, Interleave};
 use crate::seen::count;
+use compare::interleaving::Interleaving;
 use compare::samples::Shape;
 use compare::{calls, library};
 
@@ -42,8 +43,6 @@ fn object_from(bytes: &[u8], length: usize) -> Vec<u8> {
     let byte = |place: usize| bytes[place % bytes.len()].wrapping_add((place / bytes.len()) as u8);
     (0..length).map(byte).collect()
 }
-
-type Interleaving = fn(usize, usize, usize, &[u8], &mut [u8]) -> u8;
 
 fn there_and_back(shape: Shape, object: &[u8], calls: [Interleaving; 2]) {
     let Shape { family, k, len } = shape;

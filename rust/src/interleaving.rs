@@ -5,8 +5,8 @@ use crate::{Refusal, raw};
 ///
 /// Byte t of the object, from 0, goes to block (t mod k) + 1 at place t div k, which is byte (t mod k) × L + t div k of `out`.
 /// Both buffers are exactly k × L bytes ([`object_len`](crate::object_len)), and every byte of `out` is written. So `out` is an
-/// object for [`encode`](crate::encode), and a data block that is lost takes every k-th byte of the first object and not L bytes
-/// in a row.
+/// object for [`encode`](crate::encode), and damage to one data block falls on every k-th byte of the object that was handed in and
+/// not on L bytes in a row.
 ///
 /// A box does not tell whether its object was interleaved: the caller has to know, and to [`deinterleave`] what it reads out.
 ///

@@ -56,9 +56,9 @@
 //!
 //! # Objects interleaved
 //!
-//! A data block that is lost takes L bytes of the object in a row, or every k-th byte where the object was interleaved before the
-//! encode. [`interleave`] does so, and [`deinterleave`] puts the bytes back after a read out. A box does not tell whether its
-//! object was interleaved: the caller has to know, and keeps it beside the true length.
+//! Damage to a data block falls on L bytes of the object in a row, or on every k-th byte where the object was interleaved.
+//! [`interleave`] does that before the encode, and [`deinterleave`] puts the bytes back after a read out. A box does not tell whether
+//! its object was interleaved: the caller has to know, and keeps that beside the true length.
 //!
 //! ```
 //! # #[cfg(feature = "alloc")] {

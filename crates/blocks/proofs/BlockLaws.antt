@@ -6,8 +6,8 @@ use Prim.Native.Nat.{ℕ, zero, suc, _+_, _-_, _*_, _≤_, _<_}
 use native.Mathlib.Nat.{mul-le-mul-right, suc-mul}
 use native.Mathlib.Decide.{decLt}
 use native.Mathlib.Omega.{arith}
-use lib.ListN.{length, take, drop, length-append, length-drop}
-use lib.Seq.{take-at, drop-at, take-nil, take-take, drop-drop, length-take-le}
+use lib.ListN.{length, take, drop, getD, length-append, length-drop}
+use lib.Seq.{take-at, drop-at, take-nil, take-take, drop-drop, length-take-le, getD-take, getD-drop}
 use Rattle.blocks.specs.Blocks.{blockOf, withBlock}
 use Rattle.blocks.specs.Inner.{InBuffer}
 
@@ -16,6 +16,13 @@ pub block-fits : (L i m : ℕ) → 1 ≤ i → i ≤ m → (i - 1) * L + L ≤ m
 block-fits L i m h l =
     let b : suc (i - 1) * L ≤ m * L = mul-le-mul-right L (omega arith) in
     rw (suc-mul (i - 1) L) at b
+
+-- place p of block i + 1
+pub block-at : (L : ℕ) (blocks : List ℕ) (i p : ℕ) → p < L → getD (blockOf L blocks (i + 1)) p 0 ≡ getD blocks (i * L + p) 0
+unfolding blockOf
+block-at L blocks i p h =
+    let e : i + 1 - 1 ≡ i = omega arith in
+    getD-take L _ p 0 h ∙ rw (getD-drop ((i + 1 - 1) * L) blocks p 0, e)
 
 -- the blocks of nodes i < j do not overlap
 pub places : (L i j : ℕ) → 1 ≤ i → i < j → (i - 1) * L + L ≤ (j - 1) * L

@@ -9,8 +9,8 @@ use native.Mathlib.Numerals.{add-one}
 use native.Mathlib.Decide.{decLt}
 use native.Mathlib.Omega.{arith}
 use lib.Bits.{bitXor}
-use lib.ListN.{length, take, drop, getD, set, length-take, length-drop, length-append, take-append-drop}
-use lib.Seq.{take-all, take-at, drop-at, take-take, take-add, take-append-le, take-append-add, drop-drop, drop-cons, drop-append-le, drop-append-add, length-take-le, set-split}
+use lib.ListN.{length, take, drop, getD, set, length-take, length-drop, length-append, take-append-drop, List·getD-append}
+use lib.Seq.{take-all, take-at, drop-at, take-take, take-add, take-append-le, take-append-add, drop-drop, drop-cons, drop-append-le, drop-append-add, length-take-le, set-split, getD-take, getD-drop, getD-append-add}
 use borrow.Rule.Slice.PartMut.{midOf, putMid, same-len-mid}
 use Rattle.base.proofs.Fill.{filled}
 use Rattle.blocks.specs.Blocks.{xorBytes, blockOf, withBlock}
@@ -65,6 +65,38 @@ length-mid s p n h = simp (length-take, length-drop) (omega arith)
 -- so are two parts of one list, put side by side in the same places of another
 pub copy-beside : (s d : List ℕ) (at m n : ℕ) → at + m ≤ length s → at ≤ length d → putMid (at + m) n (putMid at m d (midOf at m s)) (midOf (at + m) n s) ≡ putMid at (m + n) d (midOf at (m + n) s)
 copy-beside s d at m n h l = put-beside d (midOf at m s) (midOf (at + m) n s) at m n l (length-mid s at m h) ∙ ap (putMid at (m + n) d) (sym (mid-beside s at m n))
+
+-- what stands in a part
+pub getD-mid : (s : List ℕ) (at n j : ℕ) → j < n → getD (midOf at n s) j 0 ≡ getD s (at + j) 0
+getD-mid s at n j h = getD-take n (drop at s) j 0 h ∙ getD-drop at s j 0
+
+-- and in a part that is put, before it and after it
+
+module _ (s v : List ℕ) (at n : ℕ) (fits : at + n ≤ length s) (size : length v ≡ n) where
+  front : length (take at s) ≡ at
+  front = length-take-le at s (omega arith)
+
+  pub put-inside : (j : ℕ) → j < n → getD (putMid at n s v) (at + j) 0 ≡ getD v j 0
+  put-inside j h =
+      ap (λ (x : ℕ). getD (putMid at n s v) (x + j) 0) (sym front)
+      ∙ getD-append-add (take at s) (v ++ drop n (drop at s)) j 0
+      ∙ List·getD-append v (drop n (drop at s)) 0 j (omega arith)
+
+  pub put-before : (u : ℕ) → u < at → getD (putMid at n s v) u 0 ≡ getD s u 0
+  put-before u h = List·getD-append (take at s) (v ++ drop n (drop at s)) 0 u (omega (arith, front)) ∙ getD-take at s u 0 h
+
+  pub put-after : (u : ℕ) → at + n ≤ u → getD (putMid at n s v) u 0 ≡ getD s u 0
+  put-after u h =
+      let l : length (take at s ++ v) ≡ at + n = length-append (take at s) v ∙ rw (front, size) in
+      let e : u ≡ length (take at s ++ v) + (u - (at + n)) = omega arith in
+      ap (λ (x : List ℕ). getD x u 0) (sym (append-assoc (take at s) v (drop n (drop at s))))
+      ∙ ap (λ (x : ℕ). getD ((take at s ++ v) ++ drop n (drop at s)) x 0) e
+      ∙ getD-append-add (take at s ++ v) (drop n (drop at s)) (u - (at + n)) 0
+      ∙ rw (drop-drop n at s, getD-drop (at + n) s (u - (at + n)) 0)
+      (ap (λ (x : ℕ). getD s x 0) (omega arith))
+
+  pub length-put : length (putMid at n s v) ≡ length s
+  length-put = same-len-mid at n s v (size ∙ sym (length-mid s at n fits))
 
 -- ---- a list filled from the front
 

@@ -7,7 +7,8 @@ ghost use borrow.Rule.Slice.PartMut.{midOf, putMid};
 ghost use Rattle.blocks.specs.Blocks.{xorBytes, blockOf, withBlock};
 ghost use Rattle.blocks.specs.Inner.{InBuffer, BlocksIn};
 
-// dst becomes src, of the same length, byte by byte: a copy shorter than a chunk.
+// dst becomes src, of the same length, byte by byte: for a copy shorter than a chunk, or of a length that is a constant, of which the
+// compiler makes straight code.
 pub fn copy_by_bytes(dst: &mut [u8], src: &[u8])
     requires { ⌜ length (now src) ≡ length (now dst) ⌝ }
     ensures { λ _. ⌜ now (dst .exit) ≡ now (src .entry) ⌝ }

@@ -10,6 +10,7 @@ use native.Mathlib.Omega.{arith}
 use lib.Dec.{ltb}
 use Rattle.base.proofs.Tests.{and-right}
 use Rattle.families.specs.Families.{familyOf, leastK, mostK}
+use Rattle.families.proofs.Laws.{short}
 use Rattle.checks.specs.Checks.{Check, _gives_, firstMet}
 use Rattle.checks.specs.Claims.{NoneMet, Due, ChecksClaim, InRange, RangeClaim}
 use Rattle.base.proofs.RangeLaws.{inside, outside-no}
@@ -115,6 +116,10 @@ parameters-in family k L r =
 -- a number of blocks, and so many of the largest L
 pub bytes-most : {family k L : ℕ} (count most : ℕ) → count ≤ most → InRange family k L → count * L ≤ most * mostL
 bytes-most count most h r = mul-le-mul {n₂ = most} {m₂ = mostL} h (r .most)
+
+-- the bytes of an object
+pub object-most : {family k L : ℕ} → InRange family k L → k * L ≤ 22 * mostL
+object-most {family} {k} r = bytes-most k 22 (short (familyOf family) k (r .blocks) .1) r
 
 pub range-claim : RangeClaim
 range-claim family k L = (in-range family k L, parameters-in family k L)

@@ -29,6 +29,6 @@ matrix-claim f k L object h =
 pub encode-claim : EncodeClaim
 unfolding encodeAnswer encodeChecks
 encode-claim family k L object nodes = (
-  (λ e. let a = accepted-call family k L object nodes e in (a .range, a .object-size, a .nodes-size)),
+  (λ e. let a = accepted-call family k L object nodes e in (a .range, a .first, a .second)),
   (λ p. by-none family k L (length object) (k * L) (length nodes) (nodeCount (familyOf family) k * L) (parameters-in family k L (p .0)) (p .1) (p .2)),
 )

@@ -17,7 +17,7 @@ use Rattle.checks.specs.Parameters.{mostL, parameterChecks}
 use Rattle.base.proofs.RangeLaws.{outside-no, length-listFrom, getD-listFrom}
 use Rattle.encoding.specs.Matrix.{nodeBlock, nodesBuffer}
 use Rattle.encoding.specs.Encode.{encodeChecks, encodeAnswer, encoded}
-use Rattle.interleaving.specs.Interleaved.{interleaved, deinterleaved, interleaveChecks, interleaveAnswer, outInterleaved}
+use Rattle.interleaving.specs.Interleaved.{interleaved, deinterleaved, interleaveChecks, interleaveAnswer, outMoved}
 use Rattle.interleaving.proofs.Answers.{kept}
 use Rattle.lists.specs.Lists.{someOutside, rises, placeIn, setLive, someMissing, liveOutside}
 use Rattle.planning.specs.Pairs.{largerNode, smallerNode}
@@ -134,7 +134,7 @@ Computed (Lists box text) = Holds (Lists box text)
 
 -- and what follows
 holds : (row : Row) → Computed row → Holds row
-unfolding encodeAnswer encoded interleaveAnswer outInterleaved started startChecks noStart
+unfolding encodeAnswer encoded interleaveAnswer outMoved started startChecks noStart
 holds (Encodes family k L object nodes) (a, is) = λ buffer e. (rw (e, a), rw (e, a, is))
 holds (Interleaves family k L object other) (a, is, b, back) = λ out e. (rw (e, a), rw (e, a, is), rw (e, b), rw (e, b, back))
 holds (InterleaveGives family k L size room number) (is, some) = λ bytes out e f.

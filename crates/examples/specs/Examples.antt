@@ -11,7 +11,7 @@ use Rattle.lists.specs.Lists.{isIn}
 use Rattle.checks.specs.Checks.{firstMet}
 use Rattle.checks.specs.Parameters.{mostL}
 use Rattle.encoding.specs.Encode.{encodeAnswer, encoded}
-use Rattle.interleaving.specs.Interleaved.{interleaved, deinterleaved, interleaveAnswer, outInterleaved}
+use Rattle.interleaving.specs.Interleaved.{interleaved, deinterleaved, interleaveAnswer, outMoved}
 use Rattle.planning.specs.Made.{nodesMade, stepsIn}
 use Rattle.boxes.specs.Box.{blockLengthIn, nodeCountIn, bodyChecks, bodyStart, bodyOf}
 use Rattle.conversion.specs.Converted.{fromGraded, toGraded, converted, outConverted}
@@ -88,12 +88,12 @@ Holds (Encodes family k L object nodes) =
 -- each becomes the other
 Holds (Interleaves family k L object other) =
     (out : List ℕ) → length out ≡ length object
-    → (interleaveAnswer family k L object out ≡ 0) × (outInterleaved interleaved family k L object out ≡ other)
-    × (interleaveAnswer family k L other out ≡ 0) × (outInterleaved deinterleaved family k L other out ≡ object)
+    → (interleaveAnswer family k L object out ≡ 0) × (outMoved interleaved family k L object out ≡ other)
+    × (interleaveAnswer family k L other out ≡ 0) × (outMoved deinterleaved family k L other out ≡ object)
 -- nothing is written
 Holds (InterleaveGives family k L size room number) =
     (bytes out : List ℕ) → length bytes ≡ size → length out ≡ room
-    → (interleaveAnswer family k L bytes out ≡ number) × (outInterleaved interleaved family k L bytes out ≡ out) × (outInterleaved deinterleaved family k L bytes out ≡ out)
+    → (interleaveAnswer family k L bytes out ≡ number) × (outMoved interleaved family k L bytes out ≡ out) × (outMoved deinterleaved family k L bytes out ≡ out)
 Holds (Plans family k list steps rounds left) =
     (L : ℕ) → 1 ≤ L → L ≤ mostL
     → (started family k L list ≡ acceptedStart (sessionOf family k L list)) × HasPlan (sessionOf family k L list) steps rounds left

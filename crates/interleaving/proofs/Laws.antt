@@ -8,23 +8,16 @@ use native.Mathlib.Nat.{mul-comm, mod-lt, mod-eq-of-lt, mod-add-mod, mod-eq-sub-
 use native.Mathlib.Decide.{decLt, ℕ-discrete}
 use native.Mathlib.Omega.{arith}
 use lib.ListN.{length, getD}
-use lib.Seq.{getD-take, getD-drop}
 use Rattle.base.specs.Ranges.{listFrom}
 use Rattle.base.proofs.RangeLaws.{length-listFrom, getD-listFrom}
 use Rattle.blocks.specs.Blocks.{joined, blockOf}
+use Rattle.blocks.proofs.BlockLaws.{block-at}
 use Rattle.blocks.proofs.JoinedLaws.{length-joined, block-of-joined}
 use Rattle.transposition.specs.Inner.{transposed}
 use Rattle.transposition.proofs.Places.{place-div, place-mod, place-lt}
 use Rattle.transposition.proofs.TransposeLaws.{length-transposed, transposed-at, is-transposed, transposed-twice}
 use Rattle.interleaving.specs.Interleaved.{blockFor, interleaved, deinterleaved}
 use Rattle.interleaving.specs.Claims.{LostBlock, SameByte}
-
--- place p of block i + 1
-block-at : (L : ℕ) (blocks : List ℕ) (i p : ℕ) → p < L → getD (blockOf L blocks (i + 1)) p 0 ≡ getD blocks (i * L + p) 0
-unfolding blockOf
-block-at L blocks i p h =
-    let e : i + 1 - 1 ≡ i = omega arith in
-    getD-take L _ p 0 h ∙ rw (getD-drop ((i + 1 - 1) * L) blocks p 0, e)
 
 -- ---- transposes
 
@@ -70,6 +63,10 @@ back-and-there k L bytes e = rw (interleaved-is k L (deinterleaved k L bytes), d
 
 -- ---- a loss is thin
 
+-- a byte whose block is the same
+pub others-right : (k L : ℕ) (blocks others : List ℕ) (t : ℕ) → t < k * L → blockOf L blocks (blockFor k t) ≡ blockOf L others (blockFor k t) → SameByte k L blocks others t
+others-right k L blocks others t h e = deinterleaved-at k L blocks t h ∙ ap (λ (block : List ℕ). getD block (t / k) 0) e ∙ sym (deinterleaved-at k L others t h)
+
 -- two numbers fewer than k apart leave different remainders
 pub apart : (k t d : ℕ) → 1 ≤ d → d < k → blockFor k t ≡ blockFor k (t + d) → ⊥
 apart k t d h g e = go (decLt (t % k + d) k)
@@ -85,7 +82,7 @@ apart k t d h g e = go (decLt (t % k + d) k)
         let b : t % k + d - k < k = omega arith in
         omega (arith, r, mod-eq-sub-mod a, mod-eq-of-lt b)
 
--- what became of one block leaves one of the two right
+-- where one block is lost, one of the two is right
 pub one-right : (k L i : ℕ) (blocks others : List ℕ) → LostBlock k L i blocks others
     → (t d : ℕ) → 1 ≤ d → d < k → t + d < k * L → SameByte k L blocks others t ⊎ SameByte k L blocks others (t + d)
 one-right k L i blocks others lost t d h g l = go (ℕ-discrete (blockFor k t) i)
@@ -93,9 +90,7 @@ one-right k L i blocks others lost t d h g l = go (ℕ-discrete (blockFor k t) i
     same : (t : ℕ) → t < k * L → (blockFor k t ≡ i → ⊥) → SameByte k L blocks others t
     same t f n =
         let m : t % k < k = mod-lt t (omega arith) in
-        deinterleaved-at k L blocks t f
-        ∙ ap (λ (block : List ℕ). getD block (t / k) 0) (lost (t % k + 1) (omega arith) (omega arith) n)
-        ∙ sym (deinterleaved-at k L others t f)
+        others-right k L blocks others t f (lost (t % k + 1) (omega arith) (omega arith) n)
 
     go : Dec (blockFor k t ≡ i) → SameByte k L blocks others t ⊎ SameByte k L blocks others (t + d)
     go (no n) = inl (same t (omega arith) n)

@@ -9,10 +9,11 @@ use lib.ListN.{length, getD}
 use Rattle.families.proofs.Laws.{short}
 use Rattle.checks.specs.Checks.{firstMet}
 use Rattle.checks.specs.Parameters.{parameterChecks}
+use Rattle.checks.specs.Claims.{InRange}
 use Rattle.checks.proofs.Laws.{parameters-in}
 use Rattle.checks.proofs.BufferLaws.{by-parameters, by-first, by-second, by-none}
-use Rattle.interleaving.specs.Interleaved.{interleaved, deinterleaved, interleaveChecks, interleaveAnswer, outInterleaved}
-use Rattle.interleaving.specs.Claims.{RuleClaim, ThinClaim, AcceptedClaim, RefusalClaim, Undone, UndoneClaim}
+use Rattle.interleaving.specs.Interleaved.{interleaved, deinterleaved, interleaveChecks, interleaveAnswer, outMoved}
+use Rattle.interleaving.specs.Claims.{RuleClaim, ThinClaim, AcceptedClaim, ServedClaim, RefusalClaim, Undone, UndoneClaim}
 use Rattle.interleaving.proofs.Laws as laws
 use Rattle.interleaving.proofs.Answers.{accepted-call, kept, written}
 
@@ -27,17 +28,18 @@ rule-claim k L bytes e =
       back-and-there = laws.back-and-there k L bytes e;
     }
 
--- k of an accepted call is 2 or more
-two : (family k L : ℕ) (bytes out : List ℕ) → interleaveAnswer family k L bytes out ≡ 0 → 1 < k
-two family k L bytes out e = let r = accepted-call family k L bytes out e .range in omega (arith, short _ k (r .blocks))
+-- k is 2 or more
+two : (family k L : ℕ) → InRange family k L → 1 < k
+two family k L r = omega (arith, short _ k (r .blocks))
 
 pub thin-claim : ThinClaim
 thin-claim =
     record {
+      others-right = laws.others-right;
       apart = laws.apart;
       one-right = laws.one-right;
-      neighbours = λ family k L bytes out e t. laws.apart k t 1 (omega arith) (two family k L bytes out e);
-      neighbour-right = λ family k L i blocks out others e lost t. laws.one-right k L i blocks others lost t 1 (omega arith) (two family k L blocks out e);
+      neighbours = λ family k L r t. laws.apart k t 1 (omega arith) (two family k L r);
+      neighbour-right = λ family k L i blocks others r lost t. laws.one-right k L i blocks others lost t 1 (omega arith) (two family k L r);
     }
 
 pub accepted-claim : AcceptedClaim
@@ -46,6 +48,9 @@ accepted-claim family k L bytes out = (
   (λ e. let a = accepted-call family k L bytes out e in (a .range, a .first, a .second)),
   (λ p. by-none family k L (length bytes) (k * L) (length out) (k * L) (parameters-in family k L (p .0)) (p .1) (p .2)),
 )
+
+pub served-claim : ServedClaim
+served-claim rule family k L bytes out e = written family k L bytes out rule e
 
 pub refusal-claim : RefusalClaim
 unfolding interleaveAnswer interleaveChecks
@@ -66,8 +71,8 @@ undone : (rule inverse : ℕ → ℕ → List ℕ → List ℕ) (family k L : �
 undone rule inverse family k L bytes out again e g size back =
     let a = accepted-call family k L bytes out e in
     let w = written family k L bytes out rule e in
-    let f : interleaveAnswer family k L (outInterleaved rule family k L bytes out) again ≡ 0 = accepted-claim family k L (outInterleaved rule family k L bytes out) again .1 (a .range, rw w size, g) in
-    record { accepted = f; same = written family k L (outInterleaved rule family k L bytes out) again inverse f ∙ rw w back }
+    let f : interleaveAnswer family k L (outMoved rule family k L bytes out) again ≡ 0 = accepted-claim family k L (outMoved rule family k L bytes out) again .1 (a .range, rw w size, g) in
+    record { accepted = f; same = written family k L (outMoved rule family k L bytes out) again inverse f ∙ rw w back }
 
 pub undone-claim : UndoneClaim
 undone-claim =

@@ -37,5 +37,5 @@ unfoldable pub interleaveAnswer : ℕ → ℕ → ℕ → List ℕ → List ℕ 
 interleaveAnswer family k L bytes out = firstMet (interleaveChecks family k L (length bytes) (length out))
 
 -- the destination afterwards: all of it by the rule, interleaved or deinterleaved, where the call is accepted, and as it was where it is refused
-unfoldable pub outInterleaved : (ℕ → ℕ → List ℕ → List ℕ) → ℕ → ℕ → ℕ → List ℕ → List ℕ → List ℕ
-outInterleaved rule family k L bytes out = afterwards (interleaveChecks family k L (length bytes) (length out)) (rule k L bytes) out
+unfoldable pub outMoved : (ℕ → ℕ → List ℕ → List ℕ) → ℕ → ℕ → ℕ → List ℕ → List ℕ → List ℕ
+outMoved rule family k L bytes out = afterwards (interleaveChecks family k L (length bytes) (length out)) (rule k L bytes) out

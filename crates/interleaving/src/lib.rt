@@ -2,7 +2,7 @@
 // object is `len` rows of k bytes, and the k blocks are its columns.
 ghost use mathlib.Core.Path.{_≡_};
 ghost use Rattle.checks.specs.Checks.{firstMet};
-ghost use Rattle.interleaving.specs.Interleaved.{interleaved, deinterleaved, interleaveChecks, interleaveAnswer, outInterleaved};
+ghost use Rattle.interleaving.specs.Interleaved.{interleaved, deinterleaved, interleaveChecks, interleaveAnswer, outMoved};
 
 // The number of the first check that is met, or 0.
 fn interleave_refusal(family: usize, k: usize, len: usize, bytes_len: usize, out_len: usize) -> u8
@@ -24,25 +24,26 @@ fn interleave_refusal(family: usize, k: usize, len: usize, bytes_len: usize, out
 // Byte t of the object goes to block (t mod k) + 1 of `out` at place t div k. 0, or the refusal's number: then nothing is written.
 pub fn interleave(family: usize, k: usize, len: usize, object: &[u8], out: &mut [u8]) -> u8
     ensures { λ r. ⌜ r ≡ interleaveAnswer family k len (now (object .entry)) (now (out .entry)) ⌝ }
-    ensures { λ _. ⌜ now (out .exit) ≡ outInterleaved interleaved family k len (now (object .entry)) (now (out .entry)) ⌝ }
+    ensures { λ _. ⌜ now (out .exit) ≡ outMoved interleaved family k len (now (object .entry)) (now (out .entry)) ⌝ }
 {
     let bad = interleave_refusal(family, k, len, object.len(), out.len());
     if bad != 0 {
         return bad;
     }
-    transposition::transpose_tall(object, len, k, out);
+    transposition::transpose(object, len, k, out);
     0
 }
 
-// The inverse: the bytes of the object come back from the blocks. 0, or the refusal's number: then nothing is written.
-pub fn deinterleave(family: usize, k: usize, len: usize, blocks: &[u8], out: &mut [u8]) -> u8
-    ensures { λ r. ⌜ r ≡ interleaveAnswer family k len (now (blocks .entry)) (now (out .entry)) ⌝ }
-    ensures { λ _. ⌜ now (out .exit) ≡ outInterleaved deinterleaved family k len (now (blocks .entry)) (now (out .entry)) ⌝ }
+// The inverse: place t div k of block (t mod k) + 1 of the object becomes byte t of `out`. 0, or the refusal's number: then nothing is
+// written.
+pub fn deinterleave(family: usize, k: usize, len: usize, object: &[u8], out: &mut [u8]) -> u8
+    ensures { λ r. ⌜ r ≡ interleaveAnswer family k len (now (object .entry)) (now (out .entry)) ⌝ }
+    ensures { λ _. ⌜ now (out .exit) ≡ outMoved deinterleaved family k len (now (object .entry)) (now (out .entry)) ⌝ }
 {
-    let bad = interleave_refusal(family, k, len, blocks.len(), out.len());
+    let bad = interleave_refusal(family, k, len, object.len(), out.len());
     if bad != 0 {
         return bad;
     }
-    transposition::transpose_wide(blocks, k, len, out);
+    transposition::transpose(object, k, len, out);
     0
 }

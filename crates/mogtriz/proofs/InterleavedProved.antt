@@ -2,17 +2,16 @@
 -- Assumes nothing.
 use mathlib.Core.Path.{_∙_}
 use Rattle.encoding.proofs.Proved.{encode-claim}
-use Rattle.interleaving.specs.Interleaved.{interleaved, outInterleaved}
-use Rattle.interleaving.proofs.Laws.{length-interleaved}
-use Rattle.interleaving.proofs.Answers.{accepted-call, written}
-use Rattle.interleaving.proofs.Proved.{undone-claim}
+use Rattle.interleaving.specs.Interleaved.{interleaved, outMoved}
+use Rattle.interleaving.proofs.Proved.{rule-claim, accepted-claim, served-claim, undone-claim}
 use Rattle.mogtriz.specs.Claims.{InterleavedObjectCClaim, InterleavedWayCClaim}
 use Rattle.mogtriz.proofs.CallsProved.{whole-way-c-claim}
 
 pub interleaved-object-c-claim : InterleavedObjectCClaim
 interleaved-object-c-claim family k L object out nodes e n =
-    let a = accepted-call family k L object out e in
-    encode-claim family k L (outInterleaved interleaved family k L object out) nodes .1 (a .range, rw (written family k L object out interleaved e) (length-interleaved k L object), n)
+    let a = accepted-claim family k L object out .0 e in
+    encode-claim family k L (outMoved interleaved family k L object out) nodes .1
+    (a .0, rw (served-claim interleaved family k L object out e) (rule-claim k L object (a .1) .there-size), n)
 
 pub interleaved-way-c-claim : InterleavedWayCClaim
 interleaved-way-c-claim way object out by on moves result again e size =

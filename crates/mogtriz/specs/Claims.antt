@@ -10,7 +10,7 @@ use lib.ListN.{length, getD, take, drop, replicate}
 use Rattle.lists.specs.Lists.{isIn}
 use Rattle.families.specs.Families.{familyOf, IsNode, nodeCount, columnOf, nodeOf, areRelated}
 use Rattle.encoding.specs.Encode.{encodeAnswer}
-use Rattle.interleaving.specs.Interleaved.{interleaved, deinterleaved, interleaveAnswer, outInterleaved}
+use Rattle.interleaving.specs.Interleaved.{interleaved, deinterleaved, interleaveAnswer, outMoved}
 use Rattle.checks.specs.Checks.{firstMet}
 use Rattle.checks.specs.Claims.{InRange}
 use Rattle.boxes.specs.Box.{kIn, blockLengthIn, namesIn, bodyChecks, bodyOf}
@@ -291,12 +291,12 @@ WholeWayCClaim = (way : Way) → OnTheWayC way → (moves : List Move) → Whole
 -- what mogtriz_interleave leaves, mogtriz_encode accepts with any nodes buffer of n × L bytes
 abbrev pub InterleavedObjectCClaim : Type 0
 InterleavedObjectCClaim = (family k L : ℕ) (object out nodes : List ℕ) → interleaveAnswer family k L object out ≡ 0 → length nodes ≡ nodeCount (familyOf family) k * L
-    → encodeAnswer family k L (outInterleaved interleaved family k L object out) nodes ≡ 0
+    → encodeAnswer family k L (outMoved interleaved family k L object out) nodes ≡ 0
 
 -- an object comes to the whole way interleaved: mogtriz_interleave is accepted, and what it leaves is what mogtriz_encode gets
 pub record ByInterleave (way : Way) (object out : List ℕ) : Type 0 where
   pub interleave : interleaveAnswer (way .family) (way .k) (way .len) object out ≡ 0
-  pub handed-on : way .object ≡ outInterleaved interleaved (way .family) (way .k) (way .len) object out
+  pub handed-on : way .object ≡ outMoved interleaved (way .family) (way .k) (way .len) object out
 
 -- what mogtriz_read_out leaves at the end of the way
 abbrev pub outAtC : Way → List Move → List ℕ → List ℕ
@@ -305,7 +305,7 @@ outAtC way moves result = objectOut (sessionOfC (stateAtC way moves .session)) (
 -- mogtriz_deinterleave accepts it, with any destination of k × L bytes, which then holds the object
 pub record PutBackC (way : Way) (moves : List Move) (object result again : List ℕ) : Type 0 where
   pub accepted : interleaveAnswer (way .family) (way .k) (way .len) (outAtC way moves result) again ≡ 0
-  pub same : outInterleaved deinterleaved (way .family) (way .k) (way .len) (outAtC way moves result) again ≡ object
+  pub same : outMoved deinterleaved (way .family) (way .k) (way .len) (outAtC way moves result) again ≡ object
 
 -- whatever calls are made on the way, where mogtriz_read_out is accepted
 abbrev pub InterleavedWayCClaim : Type 0

@@ -5,7 +5,7 @@ pub mod sessions;
 
 ghost use mathlib.Core.Path.{_≡_};
 ghost use Rattle.encoding.specs.Encode.{encodeAnswer, encoded};
-ghost use Rattle.interleaving.specs.Interleaved.{interleaved, deinterleaved, interleaveAnswer, outInterleaved};
+ghost use Rattle.interleaving.specs.Interleaved.{interleaved, deinterleaved, interleaveAnswer, outMoved};
 ghost use Rattle.mogtriz.specs.Exports.{interfaceVersion, nodeCountOr0, isNode, columnOr0, nodeOr0, relatedOr0};
 
 // The version of this interface, MOGTRIZ_VERSION of the header that it was made with.
@@ -41,7 +41,7 @@ pub extern "C" fn mogtriz_interleave(
     out: &mut [u8],
 ) -> u8
     ensures { λ r. ⌜ r ≡ interleaveAnswer family k len (now (object .entry)) (now (out .entry)) ⌝ }
-    ensures { λ _. ⌜ now (out .exit) ≡ outInterleaved interleaved family k len (now (object .entry)) (now (out .entry)) ⌝ }
+    ensures { λ _. ⌜ now (out .exit) ≡ outMoved interleaved family k len (now (object .entry)) (now (out .entry)) ⌝ }
 {
     interleaving::interleave(family, k, len, object, out)
 }
@@ -52,13 +52,13 @@ pub extern "C" fn mogtriz_deinterleave(
     family: usize,
     k: usize,
     len: usize,
-    blocks: &[u8],
+    object: &[u8],
     out: &mut [u8],
 ) -> u8
-    ensures { λ r. ⌜ r ≡ interleaveAnswer family k len (now (blocks .entry)) (now (out .entry)) ⌝ }
-    ensures { λ _. ⌜ now (out .exit) ≡ outInterleaved deinterleaved family k len (now (blocks .entry)) (now (out .entry)) ⌝ }
+    ensures { λ r. ⌜ r ≡ interleaveAnswer family k len (now (object .entry)) (now (out .entry)) ⌝ }
+    ensures { λ _. ⌜ now (out .exit) ≡ outMoved deinterleaved family k len (now (object .entry)) (now (out .entry)) ⌝ }
 {
-    interleaving::deinterleave(family, k, len, blocks, out)
+    interleaving::deinterleave(family, k, len, object, out)
 }
 
 // n, the number of nodes; 0 where the family or k is out of range.

@@ -25,7 +25,7 @@ use Rattle.repair.specs.declared.Written.{Written}
 use Rattle.repair.specs.declared.Stepped.{Stepped}
 use Rattle.repair.specs.declared.Repairs.{Repairs}
 use Rattle.repair.specs.Session.{sessionOf, startChecks, started, nodeCountOf, nodesChecks}
-use Rattle.repair.specs.Boxed.{sessionIn, checkedBox, readChecks, readBox, nodesRead, writeChecks, written}
+use Rattle.repair.specs.Boxed.{checkedBox, readChecks, readBox, nodesRead, writeChecks, written}
 use Rattle.repair.specs.LiveNodes.{liveNodesOf, liveListed}
 use Rattle.repair.specs.Step.{stepChecks, stepped, nodesStepped}
 use Rattle.repair.specs.Repairs.{planIn, refusedRepairs, ran, nodesRan}

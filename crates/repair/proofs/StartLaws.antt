@@ -8,11 +8,11 @@ use borrow.Author.Tests.{eqb-true, eq-eqb, ne-eqb, not-false}
 use lib.Dec.{eqb}
 use Rattle.base.proofs.Tests.{or-neither}
 use Rattle.families.specs.Families.{familyOf, nodeCount}
-use Rattle.families.proofs.Laws.{few, short}
+use Rattle.families.proofs.Laws.{few}
 use Rattle.checks.specs.Checks.{firstMet}
 use Rattle.checks.specs.Claims.{NoneMet, InRange}
 use Rattle.checks.specs.Parameters.{mostL, parameterChecks}
-use Rattle.checks.proofs.Laws.{bytes-most, in-range, range-of, accepted, parameters-none, none-append, some-append}
+use Rattle.checks.proofs.Laws.{bytes-most, object-most, in-range, range-of, accepted, parameters-none, none-append, some-append}
 use Rattle.lists.specs.Lists.{someOutside, rises, listChecks, liveOutside}
 use Rattle.repair.specs.declared.Session.{Session}
 use Rattle.repair.specs.Session.{startChecks, nodeCountOf, noStart, nodesChecks}
@@ -72,7 +72,7 @@ module _ (s : Session) where
   nodes-small n = bytes-most (nodeCountOf s) 255 (few (familyOf (s .family)) (s .k) (n .range .blocks)) (n .range)
 
   pub object-small : Known → s .k * s .len ≤ 22 * mostL
-  object-small n = bytes-most (s .k) 22 (short (familyOf (s .family)) (s .k) (n .range .blocks) .1) (n .range)
+  object-small n = object-most (n .range)
 
   pub nodes-13 : (length : ℕ) → noStart s ≡ true → firstMet (nodesChecks s length) ≡ 13
   unfolding nodesChecks firstMet

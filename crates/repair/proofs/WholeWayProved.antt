@@ -89,7 +89,7 @@ own-encode : (family k L : ℕ) (object nodes list : List ℕ) → encodeAnswer 
     → LiveAreOwn object (started family k L list .session) (encoded family k L object nodes)
 own-encode family k L object nodes list e h =
     rw (session-started family k L list (start-accepted family k L list h), sym (encoded-is family k L object nodes e))
-    (λ j n l. buffer-block (familyOf family) k L object (accepted-call family k L object nodes e .object-size) j n)
+    (λ j n l. buffer-block (familyOf family) k L object (accepted-call family k L object nodes e .first) j n)
 
 -- each node of a list of which none is missing is live
 live-at : (marks : List Bool) (list : List ℕ) (i : ℕ) → someMissing marks list ≡ false → i < length list → isLive marks (getD list i 0) ≡ true
@@ -402,7 +402,7 @@ module _ (way : Way) (on : OnTheWay way) (moves : List Move) where
       let c = own-box-claim in
       let is = session-read box (way .other) reads in
       own-claim (way .object) read-session read-nodes (read-fits box (way .other) reads .marks)
-      (rw is (accepted-call (way .family) (way .k) (way .len) (way .object) (way .nodes) (on .encode) .object-size ∙ sym object-is))
+      (rw is (accepted-call (way .family) (way .k) (way .len) (way .object) (way .nodes) (on .encode) .first ∙ sym object-is))
       (c .read (way .object) box (way .other)
       (c .write (way .object) (startOf way .session) (nodesEncoded way) (way .list) (way .out)
       (c .encode (way .family) (way .k) (way .len) (way .object) (way .nodes) (way .live) (on .encode) (on .start))

@@ -37,7 +37,7 @@ column-more {goal} {before} {after} {rows} {done} w n c r h g =
     below-more (λ (c : ℕ). Right goal after (c * rows + r)) done (λ c l. n .stay (c * rows + r) (w c r l g))
     (let e : done * rows + r * 1 + 0 ≡ done * rows + r = omega arith in rw e at (n .right r 0 g (omega arith))) c h
 
--- some columns more of a few rows, likewise
+-- some columns more of a few rows, from one that is done or the next on
 pub near-after : {goal s t u : List ℕ} {done count c size r rows : ℕ} → Nears goal s t done size r rows → Nears goal t u count size (r + c * rows) rows → c ≤ done
     → Nears goal s u (c + count) size r rows
 near-after {goal} {s} {t} {u} {done} {count} {c} {size} {r} {rows} w n l =

@@ -8,31 +8,30 @@ use native.Mathlib.Omega.{arith}
 use borrow.Author.Count.{below-more}
 use borrow.Rule.Slice.PartMut.{midOf, putMid}
 use lib.ListN.{length, getD}
-use Rattle.blocks.proofs.PartLaws.{length-mid}
+use Rattle.blocks.proofs.PartLaws.{length-mid, getD-mid, put-inside, put-before}
 use Rattle.transposition.specs.Inner.{transposed, PiecesIn, Nears, Loaded, Stored, Turned}
 use Rattle.transposition.proofs.Places.{row-end, place-of}
 use Rattle.transposition.proofs.TransposeLaws.{transposed-at}
-use Rattle.transposition.proofs.NearLaws.{getD-mid, put-inside, put-before}
 
 -- one row more
-pub loaded-more : {source tile : List ℕ} {from stride i size : ℕ} → from + i * stride + size ≤ length source → i * size + size ≤ length tile
-    → Loaded source from stride i size tile → Loaded source from stride (i + 1) size (putMid (i * size) size tile (midOf (from + i * stride) size source))
-loaded-more {source} {tile} {from} {stride} {i} {size} f g w =
+pub loaded-more : {source tile : List ℕ} {from from-stride i size : ℕ} → from + i * from-stride + size ≤ length source → i * size + size ≤ length tile
+    → Loaded source from from-stride i size tile → Loaded source from from-stride (i + 1) size (putMid (i * size) size tile (midOf (from + i * from-stride) size source))
+loaded-more {source} {tile} {from} {from-stride} {i} {size} f g w =
     record {
-      row = λ h j a b. below-more (λ (h : ℕ). getD (putMid (i * size) size tile v) (h * size + j) 0 ≡ getD source (from + h * stride + j) 0) i
+      row = λ h j a b. below-more (λ (h : ℕ). getD (putMid (i * size) size tile v) (h * size + j) 0 ≡ getD source (from + h * from-stride + j) 0) i
           (λ h l. put-before tile v (i * size) size g e (h * size + j) (omega (arith, row-end h size i l)) ∙ w .row h j l b)
-          (put-inside tile v (i * size) size g e j b ∙ getD-mid source (from + i * stride) size j b) h a;
+          (put-inside tile v (i * size) size g e j b ∙ getD-mid source (from + i * from-stride) size j b) h a;
     }
   where
     v : List ℕ
-    v = midOf (from + i * stride) size source
+    v = midOf (from + i * from-stride) size source
 
     e : length v ≡ size
-    e = length-mid source (from + i * stride) size f
+    e = length-mid source (from + i * from-stride) size f
 
 -- a tile loaded, transposed and stored
-pub moved : (log : ℕ) {source tile turned before after : List ℕ} {from stride to step : ℕ} → Loaded source from stride (2 ^ log) (2 ^ (7 - log)) tile
-    → turned ≡ transposed (2 ^ log) (2 ^ (7 - log)) tile → Stored turned before after to step (2 ^ (7 - log)) (2 ^ log) → Turned source from stride before after to step log
+pub moved : (log : ℕ) {source tile turned before after : List ℕ} {from from-stride to to-stride : ℕ} → Loaded source from from-stride (2 ^ log) (2 ^ (7 - log)) tile
+    → turned ≡ transposed (2 ^ log) (2 ^ (7 - log)) tile → Stored turned before after to to-stride (2 ^ (7 - log)) (2 ^ log) → Turned source from from-stride before after to to-stride log
 moved log {tile = tile} l t s =
     record { nears = λ goal e. s .nears goal (λ c r h g. rw t (transposed-at (2 ^ log) (2 ^ (7 - log)) tile r c g h) ∙ l .row r c g h ∙ e r c g h) }
 

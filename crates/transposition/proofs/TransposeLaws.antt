@@ -74,7 +74,7 @@ transposed-product a b c bytes =
         ∙ ap (λ (x : ℕ). getD bytes x 0) third
         ∙ sym (transposed-at (a * b) c bytes r l h g)
 
--- two rows of 64 bytes more
+-- one shuffle more doubles the rows
 pub transposed-more : (i : ℕ) (bytes : List ℕ) → i < 7 → transposed 2 64 (transposed (2 ^ i) (2 ^ (7 - i)) bytes) ≡ transposed (2 ^ (i + 1)) (2 ^ (7 - (i + 1))) bytes
 transposed-more i bytes h =
     let c = 2 ^ (7 - (i + 1)) in

@@ -16,9 +16,9 @@ transposed rows columns bytes = listFrom (λ u. getD bytes (u % rows * columns +
 
 -- ---- pieces of a buffer
 
--- `count` pieces of `size` bytes, the first at `at` and each `step` after the one before, lie in a buffer of so many bytes
-abbrev pub PiecesIn : (count size at step total : ℕ) → Type 0
-PiecesIn count size at step total = (i : ℕ) → i < count → at + i * step + size ≤ total
+-- `count` pieces of `size` bytes, the first at `at` and each `stride` after the one before, lie in a buffer of so many bytes
+abbrev pub PiecesIn : (count size at stride total : ℕ) → Type 0
+PiecesIn count size at stride total = (i : ℕ) → i < count → at + i * stride + size ≤ total
 
 -- ---- nearer to a goal
 
@@ -27,34 +27,34 @@ abbrev pub Right : List ℕ → List ℕ → ℕ → Type 0
 Right goal bytes u = getD bytes u 0 ≡ getD goal u 0
 
 -- what part of the work leaves: the length stays, bytes that were right stay so, and those of `count` pieces are right
-pub record Nears (goal before after : List ℕ) (count size at step : ℕ) : Type 0 where
+pub record Nears (goal before after : List ℕ) (count size at stride : ℕ) : Type 0 where
   pub length-stays : length after ≡ length before
   pub stay : (u : ℕ) → Right goal before u → Right goal after u
-  pub right : (i j : ℕ) → i < count → j < size → Right goal after (at + i * step + j)
+  pub right : (i j : ℕ) → i < count → j < size → Right goal after (at + i * stride + j)
 
 -- ---- moves
 
--- `count` bytes, `stride` apart, come to places `step` apart: whatever goal has them there is nearer
-pub record Strided (source : List ℕ) (from stride : ℕ) (before after : List ℕ) (to step count : ℕ) : Type 0 where
-  pub nears : (goal : List ℕ) → ((i : ℕ) → i < count → getD source (from + i * stride) 0 ≡ getD goal (to + i * step) 0) → Nears goal before after count 1 to step
+-- `count` bytes, `from-stride` apart, come to places `to-stride` apart: whatever goal has them there, the buffer nears it
+pub record Strided (source : List ℕ) (from from-stride : ℕ) (before after : List ℕ) (to to-stride count : ℕ) : Type 0 where
+  pub nears : (goal : List ℕ) → ((i : ℕ) → i < count → getD source (from + i * from-stride) 0 ≡ getD goal (to + i * to-stride) 0) → Nears goal before after count 1 to to-stride
 
 -- the rows of a tile, `count` of `size` bytes, are pieces of a buffer
-pub record Loaded (source : List ℕ) (from stride count size : ℕ) (tile : List ℕ) : Type 0 where
-  pub row : (i j : ℕ) → i < count → j < size → getD tile (i * size + j) 0 ≡ getD source (from + i * stride + j) 0
+pub record Loaded (source : List ℕ) (from from-stride count size : ℕ) (tile : List ℕ) : Type 0 where
+  pub row : (i j : ℕ) → i < count → j < size → getD tile (i * size + j) 0 ≡ getD source (from + i * from-stride + j) 0
 
 -- the rows of a tile come to pieces of a buffer
-pub record Stored (tile before after : List ℕ) (to step count size : ℕ) : Type 0 where
-  pub nears : (goal : List ℕ) → ((i j : ℕ) → i < count → j < size → getD tile (i * size + j) 0 ≡ getD goal (to + i * step + j) 0) → Nears goal before after count size to step
+pub record Stored (tile before after : List ℕ) (to to-stride count size : ℕ) : Type 0 where
+  pub nears : (goal : List ℕ) → ((i j : ℕ) → i < count → j < size → getD tile (i * size + j) 0 ≡ getD goal (to + i * to-stride + j) 0) → Nears goal before after count size to to-stride
 
 -- pieces of one buffer, the 2^log rows of a tile of 128 bytes, come to pieces of another as its columns
-pub record Turned (source : List ℕ) (from stride : ℕ) (before after : List ℕ) (to step log : ℕ) : Type 0 where
-  pub nears : (goal : List ℕ) → ((r c : ℕ) → r < 2 ^ log → c < 2 ^ (7 - log) → getD source (from + r * stride + c) 0 ≡ getD goal (to + c * step + r) 0)
-      → Nears goal before after (2 ^ (7 - log)) (2 ^ log) to step
+pub record Turned (source : List ℕ) (from from-stride : ℕ) (before after : List ℕ) (to to-stride log : ℕ) : Type 0 where
+  pub nears : (goal : List ℕ) → ((r c : ℕ) → r < 2 ^ log → c < 2 ^ (7 - log) → getD source (from + r * from-stride + c) 0 ≡ getD goal (to + c * to-stride + r) 0)
+      → Nears goal before after (2 ^ (7 - log)) (2 ^ log) to to-stride
 
 -- a tile's pieces lie in the two buffers
-pub record TileIn (log from stride source to step target : ℕ) : Type 0 where
-  pub reads : PiecesIn (2 ^ log) (2 ^ (7 - log)) from stride source
-  pub writes : PiecesIn (2 ^ (7 - log)) (2 ^ log) to step target
+pub record TileIn (log from from-stride source to to-stride target : ℕ) : Type 0 where
+  pub reads : PiecesIn (2 ^ log) (2 ^ (7 - log)) from from-stride source
+  pub writes : PiecesIn (2 ^ (7 - log)) (2 ^ log) to to-stride target
 
 -- ---- which tiles
 
@@ -73,7 +73,7 @@ pub record Start (at size end start : ℕ) : Type 0 where
   pub within : start + size ≤ end
   pub last : (start ≡ at) ⊎ (start + size ≡ end)
 
--- of few and many, tiles span 2^span of the few, or 0 says that none suits
+-- where span is not 0, tiles of 2^span of the few and 2^(7 − span) of the many fit, and 1 is for two alone
 pub record Spans (few many span : ℕ) : Type 0 where
   pub most : span ≤ 3
   pub fits : 1 ≤ span → (2 ^ span ≤ few) × (2 ^ (7 - span) ≤ many)

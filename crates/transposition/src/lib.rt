@@ -1,31 +1,31 @@
 // Matrices of bytes, row by row in a buffer, transposed into another buffer: by tiles of 128 bytes, which stay in registers on
-// their way, and byte by byte where the matrix is too small for a tile.
+// their way, and byte by byte where no tile suits the matrix.
 ghost use mathlib.Core.Path.{_≡_};
-ghost use Prim.Native.Nat.{_+_, _-_, _*_, _^_, _≤_, _<_};
+ghost use Prim.Native.Nat.{_+_, _-_, _*_, _^_, _≤_};
 ghost use lib.ListN.{length};
 ghost use Rattle.transposition.specs.Inner.{transposed, PiecesIn, Nears, Strided, Loaded, Stored, Turned, TileIn, Start, Suits, Spans};
 
-// `count` bytes of src from a place on, `stride` apart, become those of dst from a place on, `step` apart.
+// `count` bytes of src from a place on, `from_stride` apart, become those of dst from a place on, `to_stride` apart.
 fn copy_strided(
     src: &[u8],
     from: usize,
-    stride: usize,
+    from_stride: usize,
     dst: &mut [u8],
     to: usize,
-    step: usize,
+    to_stride: usize,
     count: usize,
 )
-    requires { ⌜ PiecesIn count 1 from stride (length (now src)) × PiecesIn count 1 to step (length (now dst)) ⌝ }
-    ensures { λ _. ⌜ Strided (now (src .entry)) from stride (now (dst .entry)) (now (dst .exit)) to step count ⌝ }
+    requires { ⌜ PiecesIn count 1 from «from_stride» (length (now src)) × PiecesIn count 1 to «to_stride» (length (now dst)) ⌝ }
+    ensures { λ _. ⌜ Strided (now (src .entry)) from «from_stride» (now (dst .entry)) (now (dst .exit)) to «to_stride» count ⌝ }
 {
     let mut i: usize = 0;
     while i < count {
-        dst[to + i * step] = src[from + i * stride];
+        dst[to + i * to_stride] = src[from + i * from_stride];
         i += 1;
     }
 }
 
-// The transpose byte by byte, a column of the matrix at a time.
+// The transpose byte by byte, a column of the matrix at a time: for many rows, so that the inner loop is the long one.
 fn by_columns(src: &[u8], rows: usize, columns: usize, dst: &mut [u8])
     requires { ⌜ (length (now src) ≡ rows * columns) × (length (now dst) ≡ rows * columns) ⌝ }
     ensures { λ _. ⌜ now (dst .exit) ≡ transposed rows columns (now (src .entry)) ⌝ }
@@ -37,7 +37,7 @@ fn by_columns(src: &[u8], rows: usize, columns: usize, dst: &mut [u8])
     }
 }
 
-// The transpose byte by byte, a row of the matrix at a time.
+// The transpose byte by byte, a row of the matrix at a time: for many columns.
 fn by_rows(src: &[u8], rows: usize, columns: usize, dst: &mut [u8])
     requires { ⌜ (length (now src) ≡ rows * columns) × (length (now dst) ≡ rows * columns) ⌝ }
     ensures { λ _. ⌜ now (dst .exit) ≡ transposed rows columns (now (src .entry)) ⌝ }
@@ -50,7 +50,7 @@ fn by_rows(src: &[u8], rows: usize, columns: usize, dst: &mut [u8])
 }
 
 // A tile's first half and second half, a byte of each by turns: the perfect shuffle, which transposes two rows of 64 bytes. The
-// compiler makes it eight pairs of instructions that interleave two registers.
+// compiler makes it eight instructions, each of which interleaves halves of two registers.
 fn shuffle(tile: [u8; 128]) -> [u8; 128]
     ensures { λ r. ⌜ r ≡ transposed 2 64 tile ⌝ }
 {
@@ -64,7 +64,7 @@ fn shuffle(tile: [u8; 128]) -> [u8; 128]
     shuffled
 }
 
-// A tile of 2^log rows, transposed: that many shuffles do it.
+// A tile of 2^log rows, transposed by log shuffles.
 fn turn(tile: [u8; 128], log: usize) -> [u8; 128]
     requires { ⌜ log ≤ 7 ⌝ }
     ensures { λ r. ⌜ r ≡ transposed (2 ^ log) (2 ^ (7 - log)) tile ⌝ }
@@ -79,89 +79,117 @@ fn turn(tile: [u8; 128], log: usize) -> [u8; 128]
     turned
 }
 
-// A tile of `count` rows of `size` bytes, which are pieces of src, each `stride` after the one before.
-fn load(src: &[u8], from: usize, stride: usize, count: usize, size: usize) -> [u8; 128]
-    requires { ⌜ (count * size ≡ 128) × PiecesIn count size from stride (length (now src)) ⌝ }
-    ensures { λ r. ⌜ Loaded (now (src .entry)) from stride count size r ⌝ }
+// A tile of `count` rows of `size` bytes, which are pieces of src, each `from_stride` after the one before.
+fn load(src: &[u8], from: usize, from_stride: usize, count: usize, size: usize) -> [u8; 128]
+    requires { ⌜ (count * size ≡ 128) × PiecesIn count size from «from_stride» (length (now src)) ⌝ }
+    ensures { λ r. ⌜ Loaded (now (src .entry)) from «from_stride» count size r ⌝ }
 {
     let mut tile = [0u8; 128];
     let mut i: usize = 0;
     while i < count {
         let row = i * size;
-        let piece = from + i * stride;
+        let piece = from + i * from_stride;
         blocks::copy_by_bytes(&mut tile[row..row + size], &src[piece..piece + size]);
         i += 1;
     }
     tile
 }
 
-// The rows of a tile become pieces of dst, each `step` after the one before.
-fn store(dst: &mut [u8], to: usize, step: usize, count: usize, size: usize, tile: [u8; 128])
-    requires { ⌜ (count * size ≡ 128) × PiecesIn count size to step (length (now dst)) ⌝ }
-    ensures { λ _. ⌜ Stored tile (now (dst .entry)) (now (dst .exit)) to step count size ⌝ }
+// The rows of a tile become pieces of dst, each `to_stride` after the one before.
+fn store(dst: &mut [u8], to: usize, to_stride: usize, count: usize, size: usize, tile: [u8; 128])
+    requires { ⌜ (count * size ≡ 128) × PiecesIn count size to «to_stride» (length (now dst)) ⌝ }
+    ensures { λ _. ⌜ Stored tile (now (dst .entry)) (now (dst .exit)) to «to_stride» count size ⌝ }
 {
     let mut i: usize = 0;
     while i < count {
         let row = i * size;
-        let piece = to + i * step;
+        let piece = to + i * to_stride;
         blocks::copy_by_bytes(&mut dst[piece..piece + size], &tile[row..row + size]);
         i += 1;
     }
 }
 
 // A tile of 16 rows of 8 bytes. In each of these six the numbers are constants, so that the compiler makes it straight code.
-fn move_16_by_8(src: &[u8], from: usize, stride: usize, dst: &mut [u8], to: usize, step: usize)
-    requires { ⌜ TileIn 4 from stride (length (now src)) to step (length (now dst)) ⌝ }
-    ensures { λ _. ⌜ Turned (now (src .entry)) from stride (now (dst .entry)) (now (dst .exit)) to step 4 ⌝ }
+fn move_16_by_8(
+    src: &[u8],
+    from: usize,
+    from_stride: usize,
+    dst: &mut [u8],
+    to: usize,
+    to_stride: usize,
+)
+    requires { ⌜ TileIn 4 from «from_stride» (length (now src)) to «to_stride» (length (now dst)) ⌝ }
+    ensures { λ _. ⌜ Turned (now (src .entry)) from «from_stride» (now (dst .entry)) (now (dst .exit)) to «to_stride» 4 ⌝ }
 {
-    let tile = load(src, from, stride, 16, 8);
+    let tile = load(src, from, from_stride, 16, 8);
     let turned = turn(tile, 4);
-    store(dst, to, step, 8, 16, turned);
+    store(dst, to, to_stride, 8, 16, turned);
 }
 
-fn move_8_by_16(src: &[u8], from: usize, stride: usize, dst: &mut [u8], to: usize, step: usize)
-    requires { ⌜ TileIn 3 from stride (length (now src)) to step (length (now dst)) ⌝ }
-    ensures { λ _. ⌜ Turned (now (src .entry)) from stride (now (dst .entry)) (now (dst .exit)) to step 3 ⌝ }
+fn move_8_by_16(
+    src: &[u8],
+    from: usize,
+    from_stride: usize,
+    dst: &mut [u8],
+    to: usize,
+    to_stride: usize,
+)
+    requires { ⌜ TileIn 3 from «from_stride» (length (now src)) to «to_stride» (length (now dst)) ⌝ }
+    ensures { λ _. ⌜ Turned (now (src .entry)) from «from_stride» (now (dst .entry)) (now (dst .exit)) to «to_stride» 3 ⌝ }
 {
-    let tile = load(src, from, stride, 8, 16);
+    let tile = load(src, from, from_stride, 8, 16);
     let turned = turn(tile, 3);
-    store(dst, to, step, 16, 8, turned);
+    store(dst, to, to_stride, 16, 8, turned);
 }
 
-fn move_32_by_4(src: &[u8], from: usize, stride: usize, dst: &mut [u8], to: usize, step: usize)
-    requires { ⌜ TileIn 5 from stride (length (now src)) to step (length (now dst)) ⌝ }
-    ensures { λ _. ⌜ Turned (now (src .entry)) from stride (now (dst .entry)) (now (dst .exit)) to step 5 ⌝ }
+fn move_32_by_4(
+    src: &[u8],
+    from: usize,
+    from_stride: usize,
+    dst: &mut [u8],
+    to: usize,
+    to_stride: usize,
+)
+    requires { ⌜ TileIn 5 from «from_stride» (length (now src)) to «to_stride» (length (now dst)) ⌝ }
+    ensures { λ _. ⌜ Turned (now (src .entry)) from «from_stride» (now (dst .entry)) (now (dst .exit)) to «to_stride» 5 ⌝ }
 {
-    let tile = load(src, from, stride, 32, 4);
+    let tile = load(src, from, from_stride, 32, 4);
     let turned = turn(tile, 5);
-    store(dst, to, step, 4, 32, turned);
+    store(dst, to, to_stride, 4, 32, turned);
 }
 
-fn move_4_by_32(src: &[u8], from: usize, stride: usize, dst: &mut [u8], to: usize, step: usize)
-    requires { ⌜ TileIn 2 from stride (length (now src)) to step (length (now dst)) ⌝ }
-    ensures { λ _. ⌜ Turned (now (src .entry)) from stride (now (dst .entry)) (now (dst .exit)) to step 2 ⌝ }
+fn move_4_by_32(
+    src: &[u8],
+    from: usize,
+    from_stride: usize,
+    dst: &mut [u8],
+    to: usize,
+    to_stride: usize,
+)
+    requires { ⌜ TileIn 2 from «from_stride» (length (now src)) to «to_stride» (length (now dst)) ⌝ }
+    ensures { λ _. ⌜ Turned (now (src .entry)) from «from_stride» (now (dst .entry)) (now (dst .exit)) to «to_stride» 2 ⌝ }
 {
-    let tile = load(src, from, stride, 4, 32);
+    let tile = load(src, from, from_stride, 4, 32);
     let turned = turn(tile, 2);
-    store(dst, to, step, 32, 4, turned);
+    store(dst, to, to_stride, 32, 4, turned);
 }
 
 // 64 whole rows of a matrix of two columns lie side by side: one piece.
-fn move_64_by_2(src: &[u8], from: usize, dst: &mut [u8], to: usize, step: usize)
-    requires { ⌜ TileIn 6 from 2 (length (now src)) to step (length (now dst)) ⌝ }
-    ensures { λ _. ⌜ Turned (now (src .entry)) from 2 (now (dst .entry)) (now (dst .exit)) to step 6 ⌝ }
+fn move_64_by_2(src: &[u8], from: usize, dst: &mut [u8], to: usize, to_stride: usize)
+    requires { ⌜ TileIn 6 from 2 (length (now src)) to «to_stride» (length (now dst)) ⌝ }
+    ensures { λ _. ⌜ Turned (now (src .entry)) from 2 (now (dst .entry)) (now (dst .exit)) to «to_stride» 6 ⌝ }
 {
     let tile = load(src, from, 0, 1, 128);
     let turned = turn(tile, 6);
-    store(dst, to, step, 2, 64, turned);
+    store(dst, to, to_stride, 2, 64, turned);
 }
 
 // 64 whole columns of a matrix of two rows come to lie side by side.
-fn move_2_by_64(src: &[u8], from: usize, stride: usize, dst: &mut [u8], to: usize)
-    requires { ⌜ TileIn 1 from stride (length (now src)) to 2 (length (now dst)) ⌝ }
-    ensures { λ _. ⌜ Turned (now (src .entry)) from stride (now (dst .entry)) (now (dst .exit)) to 2 1 ⌝ }
+fn move_2_by_64(src: &[u8], from: usize, from_stride: usize, dst: &mut [u8], to: usize)
+    requires { ⌜ TileIn 1 from «from_stride» (length (now src)) to 2 (length (now dst)) ⌝ }
+    ensures { λ _. ⌜ Turned (now (src .entry)) from «from_stride» (now (dst .entry)) (now (dst .exit)) to 2 1 ⌝ }
 {
-    let tile = load(src, from, stride, 2, 64);
+    let tile = load(src, from, from_stride, 2, 64);
     let turned = turn(tile, 1);
     store(dst, to, 0, 1, 128, turned);
 }
@@ -170,37 +198,37 @@ fn move_2_by_64(src: &[u8], from: usize, stride: usize, dst: &mut [u8], to: usiz
 fn move_tile(
     src: &[u8],
     from: usize,
-    stride: usize,
+    from_stride: usize,
     dst: &mut [u8],
     to: usize,
-    step: usize,
+    to_stride: usize,
     log: usize,
 )
-    requires { ⌜ (1 ≤ log) × (log ≤ 6) × TileIn log from stride (length (now src)) to step (length (now dst)) ⌝ }
-    requires { ⌜ (log ≡ 6 → stride ≡ 2) × (log ≡ 1 → step ≡ 2) ⌝ }
-    ensures { λ _. ⌜ Turned (now (src .entry)) from stride (now (dst .entry)) (now (dst .exit)) to step log ⌝ }
+    requires { ⌜ (1 ≤ log) × (log ≤ 6) × TileIn log from «from_stride» (length (now src)) to «to_stride» (length (now dst)) ⌝ }
+    requires { ⌜ (log ≡ 6 → «from_stride» ≡ 2) × (log ≡ 1 → «to_stride» ≡ 2) ⌝ }
+    ensures { λ _. ⌜ Turned (now (src .entry)) from «from_stride» (now (dst .entry)) (now (dst .exit)) to «to_stride» log ⌝ }
 {
     if log == 4 {
-        move_16_by_8(src, from, stride, dst, to, step);
+        move_16_by_8(src, from, from_stride, dst, to, to_stride);
         return;
     }
     if log == 3 {
-        move_8_by_16(src, from, stride, dst, to, step);
+        move_8_by_16(src, from, from_stride, dst, to, to_stride);
         return;
     }
     if log == 5 {
-        move_32_by_4(src, from, stride, dst, to, step);
+        move_32_by_4(src, from, from_stride, dst, to, to_stride);
         return;
     }
     if log == 2 {
-        move_4_by_32(src, from, stride, dst, to, step);
+        move_4_by_32(src, from, from_stride, dst, to, to_stride);
         return;
     }
     if log == 6 {
-        move_64_by_2(src, from, dst, to, step);
+        move_64_by_2(src, from, dst, to, to_stride);
         return;
     }
-    move_2_by_64(src, from, stride, dst, to);
+    move_2_by_64(src, from, from_stride, dst, to);
 }
 
 // Where a tile that would begin at `at` begins, so that it ends by the end: the last one may overlap the one before it.
@@ -244,8 +272,8 @@ fn by_tiles(src: &[u8], rows: usize, columns: usize, dst: &mut [u8], log: usize)
     }
 }
 
-// How many of `few` a tile spans, as a power of two, and with it 2^(7 − that) of `many`; 0 where no tile fits. Of three it spans
-// none: pieces of two bytes, apart, take longer than single bytes do.
+// Tiles span 2^(what this gives) of `few` and 128 / 2^(that) of `many`: 8 and 16, 4 and 32, or 2 and 64. 0 where none of these fits, or
+// `few` is three: pieces of two bytes that lie apart take longer than single bytes.
 fn tile_span(few: usize, many: usize) -> usize
     ensures { λ r. ⌜ Spans few many r ⌝ }
 {
@@ -270,8 +298,8 @@ fn tile_span(few: usize, many: usize) -> usize
     0
 }
 
-// The transpose of a matrix with many rows of few bytes.
-pub fn transpose_tall(src: &[u8], rows: usize, columns: usize, dst: &mut [u8])
+// The transpose of a matrix with more rows than columns.
+fn transpose_tall(src: &[u8], rows: usize, columns: usize, dst: &mut [u8])
     requires { ⌜ (length (now src) ≡ rows * columns) × (length (now dst) ≡ rows * columns) ⌝ }
     ensures { λ _. ⌜ now (dst .exit) ≡ transposed rows columns (now (src .entry)) ⌝ }
 {
@@ -283,8 +311,8 @@ pub fn transpose_tall(src: &[u8], rows: usize, columns: usize, dst: &mut [u8])
     by_tiles(src, rows, columns, dst, 7 - span);
 }
 
-// The transpose of a matrix with few rows of many bytes.
-pub fn transpose_wide(src: &[u8], rows: usize, columns: usize, dst: &mut [u8])
+// The transpose of any other matrix.
+fn transpose_wide(src: &[u8], rows: usize, columns: usize, dst: &mut [u8])
     requires { ⌜ (length (now src) ≡ rows * columns) × (length (now dst) ≡ rows * columns) ⌝ }
     ensures { λ _. ⌜ now (dst .exit) ≡ transposed rows columns (now (src .entry)) ⌝ }
 {
@@ -294,4 +322,16 @@ pub fn transpose_wide(src: &[u8], rows: usize, columns: usize, dst: &mut [u8])
         return;
     }
     by_tiles(src, rows, columns, dst, span);
+}
+
+// dst becomes the transpose of src, `rows` rows of `columns` bytes.
+pub fn transpose(src: &[u8], rows: usize, columns: usize, dst: &mut [u8])
+    requires { ⌜ (length (now src) ≡ rows * columns) × (length (now dst) ≡ rows * columns) ⌝ }
+    ensures { λ _. ⌜ now (dst .exit) ≡ transposed rows columns (now (src .entry)) ⌝ }
+{
+    if columns < rows {
+        transpose_tall(src, rows, columns, dst);
+        return;
+    }
+    transpose_wide(src, rows, columns, dst);
 }

@@ -6,7 +6,7 @@ use Rattle.families.specs.declared.Family.{Family}
 use Rattle.families.specs.Families.{KInRange, nodeCount}
 use Rattle.encoding.specs.Matrix.{nodesBuffer}
 use Rattle.encoding.specs.Encode.{encodeAnswer}
-use Rattle.encoding.proofs.Answers.{kept, written, Accepted, accepted-call}
+use Rattle.encoding.proofs.Answers.{kept, written, accepted-call}
 use borrow.Author.Needs.{needs}
 use Rattle.encoding.proofs.encode.Statement.{statement}
 use Rattle.encoding.proofs.encode.Tie as tie
@@ -15,9 +15,6 @@ use Rattle.encoding.proofs.encode.Tie as tie
 answer : (c : tie.Else1) → encodeAnswer (c .before .before .before .before .args .family) (c .before .before .before .before .args .k) (c .before .before .before .before .args .len) (c .before .before .before .before .args .object .now) (c .before .before .before .before .args .nodes .now) ≡ 0
 unfolding encodeAnswer
 answer c = sym (c .before .encode-refusal .ensures) ∙ c .if1 .left
-
-call : (c : tie.Else1) → Accepted (c .before .before .before .before .args .family) (c .before .before .before .before .args .k) (c .before .before .before .before .args .len) (c .before .before .before .before .args .object .now) (c .before .before .before .before .args .nodes .now)
-call c = accepted-call (c .before .before .before .before .args .family) (c .before .before .before .before .args .k) (c .before .before .before .before .args .len) (c .before .before .before .before .args .object .now) (c .before .before .before .before .args .nodes .now) (answer c)
 
 returns : tie.Need-returns
 unfolding encodeAnswer
@@ -29,9 +26,9 @@ returns c =
 encode-nodes-requires : tie.Need-encode-nodes-requires
 encode-nodes-requires c κs =
     let g = c .before .before .before .before .before .before .args in
-    let a = call (c .before .before) in
+    let a = accepted-call (g .family) (g .k) (g .len) (g .object .now) (g .nodes .now) (answer (c .before .before)) in
     let f = sym (c .before .family-of .ensures) in
-    (subst (λ (x : Family). KInRange x (g .k)) f (a .range .blocks), (a .object-size, a .nodes-size ∙ ap (λ (x : Family). nodeCount x (g .k) * g .len) f))
+    (subst (λ (x : Family). KInRange x (g .k)) f (a .range .blocks), (a .first, a .second ∙ ap (λ (x : Family). nodeCount x (g .k) * g .len) f))
 
 returns-2 : tie.Need-returns-2
 returns-2 c =

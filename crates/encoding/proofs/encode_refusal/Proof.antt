@@ -3,10 +3,10 @@
 use mathlib.Core.Path.{_≡_, sym, _∙_}
 use Rattle.checks.specs.Checks.{firstMet}
 use Rattle.checks.specs.Parameters.{parameterChecks}
-use Rattle.checks.proofs.Laws.{in-range}
+use Rattle.checks.proofs.Laws.{in-range, object-most}
 use Rattle.checks.proofs.BufferLaws.{by-parameters, by-first, by-second, by-none}
 use Rattle.encoding.specs.Encode.{encodeChecks}
-use Rattle.encoding.proofs.Answers.{object-small, nodes-small}
+use Rattle.encoding.proofs.Answers.{nodes-small}
 use borrow.Author.Needs.{needs}
 use native.Mathlib.Omega.{arith}
 use Rattle.encoding.proofs.encode_refusal.Statement.{statement}
@@ -24,7 +24,7 @@ returns c =
     e ∙ sym (by-parameters (g .family) (g .k) (g .len) (g .object-len) _ (g .nodes-len) _ (rw e at (c .if1 .taken)))
 
 mul-if2 : tie.Need-mul-if2
-mul-if2 c = omega (arith, object-small _ _ _ (passed c))
+mul-if2 c = omega (arith, object-most (in-range _ _ _ (passed c)))
 
 returns-2 : tie.Need-returns-2
 unfolding encodeChecks

@@ -11,7 +11,7 @@ use Rattle.interleaving.proofs.deinterleave.Statement.{statement}
 use Rattle.interleaving.proofs.deinterleave.Tie as tie
 
 -- the call is accepted
-served : (c : tie.Else1) → let g = c .before .before .before .before .args in interleaveAnswer (g .family) (g .k) (g .len) (g .blocks .now) (g .out .now) ≡ 0
+served : (c : tie.Else1) → let g = c .before .before .before .before .args in interleaveAnswer (g .family) (g .k) (g .len) (g .object .now) (g .out .now) ≡ 0
 unfolding interleaveAnswer
 served c = sym (c .before .interleave-refusal .ensures) ∙ c .if1 .left
 
@@ -21,23 +21,23 @@ returns c =
     let s : tie.Start = search in
     let g = s .args in
     let e = c .before .interleave-refusal .ensures in
-    (e, sym (kept (g .family) (g .k) (g .len) (g .blocks .now) (g .out .now) deinterleaved (λ z. c .if1 .taken (e ∙ z))))
+    (e, sym (kept (g .family) (g .k) (g .len) (g .object .now) (g .out .now) deinterleaved (λ z. c .if1 .taken (e ∙ z))))
 
-transpose-wide-requires : tie.Need-transpose-wide-requires
-transpose-wide-requires c κs =
+transpose-requires : tie.Need-transpose-requires
+transpose-requires c κs =
     let s : tie.Start = search in
     let g = s .args in
-    let a = accepted-call (g .family) (g .k) (g .len) (g .blocks .now) (g .out .now) (served (search)) in
+    let a = accepted-call (g .family) (g .k) (g .len) (g .object .now) (g .out .now) (served (search)) in
     let m = mul-comm (g .k) (g .len) in
     (omega (arith, a .first, m), omega (arith, a .second, m))
 
 returns-2 : tie.Need-returns-2
 returns-2 c =
     let s : tie.Start = search in
-    let t : tie.After-transpose-wide = search in
+    let t : tie.After-transpose = search in
     let g = s .args in
     let e = served (search) in
-    (sym e, t .transpose-wide .ensures ∙ sym (deinterleaved-is (g .k) (g .len) (g .blocks .now)) ∙ sym (written (g .family) (g .k) (g .len) (g .blocks .now) (g .out .now) deinterleaved e))
+    (sym e, t .transpose .ensures ∙ sym (deinterleaved-is (g .k) (g .len) (g .object .now)) ∙ sym (written (g .family) (g .k) (g .len) (g .object .now) (g .out .now) deinterleaved e))
 
 pub deinterleave-spec : {M : Type 1} → statement M
 deinterleave-spec =
@@ -45,6 +45,6 @@ deinterleave-spec =
     (tie.spec
     (λ c κs. search needs)
     returns
-    transpose-wide-requires
+    transpose-requires
     (λ c. search needs)
     returns-2)

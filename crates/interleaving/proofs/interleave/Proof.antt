@@ -23,8 +23,8 @@ returns c =
     let e = c .before .interleave-refusal .ensures in
     (e, sym (kept (g .family) (g .k) (g .len) (g .object .now) (g .out .now) interleaved (λ z. c .if1 .taken (e ∙ z))))
 
-transpose-tall-requires : tie.Need-transpose-tall-requires
-transpose-tall-requires c κs =
+transpose-requires : tie.Need-transpose-requires
+transpose-requires c κs =
     let s : tie.Start = search in
     let g = s .args in
     let a = accepted-call (g .family) (g .k) (g .len) (g .object .now) (g .out .now) (served (search)) in
@@ -34,10 +34,10 @@ transpose-tall-requires c κs =
 returns-2 : tie.Need-returns-2
 returns-2 c =
     let s : tie.Start = search in
-    let t : tie.After-transpose-tall = search in
+    let t : tie.After-transpose = search in
     let g = s .args in
     let e = served (search) in
-    (sym e, t .transpose-tall .ensures ∙ sym (interleaved-is (g .k) (g .len) (g .object .now)) ∙ sym (written (g .family) (g .k) (g .len) (g .object .now) (g .out .now) interleaved e))
+    (sym e, t .transpose .ensures ∙ sym (interleaved-is (g .k) (g .len) (g .object .now)) ∙ sym (written (g .family) (g .k) (g .len) (g .object .now) (g .out .now) interleaved e))
 
 pub interleave-spec : {M : Type 1} → statement M
 interleave-spec =
@@ -45,6 +45,6 @@ interleave-spec =
     (tie.spec
     (λ c κs. search needs)
     returns
-    transpose-tall-requires
+    transpose-requires
     (λ c. search needs)
     returns-2)

@@ -3,9 +3,9 @@
 use mathlib.Core.Path.{_≡_, sym, _∙_}
 use Rattle.checks.specs.Checks.{firstMet}
 use Rattle.checks.specs.Parameters.{parameterChecks}
+use Rattle.checks.proofs.Laws.{in-range, object-most}
 use Rattle.checks.proofs.BufferLaws.{by-parameters, by-first, by-second, by-none}
 use Rattle.interleaving.specs.Interleaved.{interleaveChecks}
-use Rattle.interleaving.proofs.Answers.{object-small}
 use borrow.Author.Needs.{needs}
 use native.Mathlib.Omega.{arith}
 use Rattle.interleaving.proofs.interleave_refusal.Statement.{statement}
@@ -52,8 +52,8 @@ interleave-refusal-spec =
     (tie.spec
     (λ c κs. search needs)
     returns
-    (λ c. omega (arith, object-small _ _ _ (passed (search))))
+    (λ c. omega (arith, object-most (in-range _ _ _ (passed (search)))))
     returns-2
-    (λ c. omega (arith, object-small _ _ _ (passed (search))))
+    (λ c. omega (arith, object-most (in-range _ _ _ (passed (search)))))
     returns-3
     returns-4)

@@ -11,19 +11,19 @@ use Rattle.transposition.proofs.copy_strided.Statement.{statement}
 use Rattle.transposition.proofs.copy_strided.Tie as tie
 
 abbrev Inv-loop : tie.InvT-loop
-Inv-loop src from stride dst₀ to step count i₀ dst i = (i ≤ count) × (length dst ≡ length dst₀) × Strided src from stride dst₀ dst to step i
+Inv-loop src from from-stride dst₀ to to-stride count i₀ dst i = (i ≤ count) × (length dst ≡ length dst₀) × Strided src from from-stride dst₀ dst to to-stride i
 
 abbrev μ-loop : tie.MeasureT-loop
-μ-loop src from stride dst₀ to step count i₀ dst i = count - i
+μ-loop src from from-stride dst₀ to to-stride count i₀ dst i = count - i
 
 -- a place of the code, which `search` finds by its type
 abbrev Place : (tie.InvT-loop → tie.MeasureT-loop → Type 0) → Type 0
 Place P = P Inv-loop μ-loop
 
-reads : (c : Place tie.In-loop) → let g = c .before .before .args in g .from + c .before .loop .i * g .stride < length (g .src .now)
+reads : (c : Place tie.In-loop) → let g = c .before .before .args in g .from + c .before .loop .i * g .from-stride < length (g .src .now)
 reads c = omega (arith, c .before .before .pre .0 (c .before .loop .i) (c .loop-test .taken))
 
-writes : (c : Place tie.In-loop) → let g = c .before .before .args in g .to + c .before .loop .i * g .step < length (g .dst .now)
+writes : (c : Place tie.In-loop) → let g = c .before .before .args in g .to + c .before .loop .i * g .to-stride < length (g .dst .now)
 writes c = omega (arith, c .before .before .pre .1 (c .before .loop .i) (c .loop-test .taken))
 
 loop-holds : tie.Need-loop-holds Inv-loop μ-loop

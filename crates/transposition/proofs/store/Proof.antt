@@ -7,18 +7,18 @@ use native.Mathlib.Omega.{arith}
 use borrow.Author.Needs.{needs}
 use borrow.Rule.Slice.PartMut.{midOf}
 use lib.ListN.{length}
-use Rattle.blocks.proofs.PartLaws.{length-mid}
+use Rattle.blocks.proofs.PartLaws.{length-mid, getD-mid, length-put}
 use Rattle.transposition.specs.Inner.{Stored}
 use Rattle.transposition.proofs.Places.{row-end}
-use Rattle.transposition.proofs.NearLaws.{getD-mid, length-put, near-none, near-piece}
+use Rattle.transposition.proofs.NearLaws.{near-none, near-piece}
 use Rattle.transposition.proofs.store.Statement.{statement}
 use Rattle.transposition.proofs.store.Tie as tie
 
 abbrev Inv-loop : tie.InvT-loop
-Inv-loop dst₀ to step count size tile i₀ dst i = (i ≤ count) × (length dst ≡ length dst₀) × Stored tile dst₀ dst to step i size
+Inv-loop dst₀ to to-stride count size tile i₀ dst i = (i ≤ count) × (length dst ≡ length dst₀) × Stored tile dst₀ dst to to-stride i size
 
 abbrev μ-loop : tie.MeasureT-loop
-μ-loop dst₀ to step count size tile i₀ dst i = count - i
+μ-loop dst₀ to to-stride count size tile i₀ dst i = count - i
 
 -- a place of the code, which `search` finds by its type
 abbrev Place : (tie.InvT-loop → tie.MeasureT-loop → Type 0) → Type 0
@@ -27,7 +27,7 @@ Place P = P Inv-loop μ-loop
 row : (c : Place tie.In-loop) → let g = c .before .before .before .args in c .before .loop .i * g .size + g .size ≤ 128
 row c = let e : Place tie.Start = search in omega (arith, row-end (c .before .loop .i) (e .args .size) (e .args .count) (c .loop-test .taken), e .pre .0)
 
-piece : (c : Place tie.In-loop) → let g = c .before .before .before .args in g .to + c .before .loop .i * g .step + g .size ≤ length (g .dst .now)
+piece : (c : Place tie.In-loop) → let g = c .before .before .before .args in g .to + c .before .loop .i * g .to-stride + g .size ≤ length (g .dst .now)
 piece c = let e : Place tie.Start = search in e .pre .1 (c .before .loop .i) (c .loop-test .taken)
 
 loop-holds : tie.Need-loop-holds Inv-loop μ-loop
@@ -38,7 +38,7 @@ loop-again c =
     let e : Place tie.Start = search in
     let t : Place tie.At-loop = search in
     let g = e .args in
-    let at = g .to + t .loop .i * g .step in
+    let at = g .to + t .loop .i * g .to-stride in
     let from = t .loop .i * g .size in
     let w : Place tie.After-copy-by-bytes = search in
     let l : length (midOf from (g .size) (g .t6)) ≡ g .size = length-mid (g .t6) from (g .size) (omega (arith, row (search))) in
@@ -57,7 +57,7 @@ copy-by-bytes-requires c κs =
     let e : Place tie.Start = search in
     let t : Place tie.At-loop = search in
     let g = e .args in
-    let at = g .to + t .loop .i * g .step in
+    let at = g .to + t .loop .i * g .to-stride in
     let from = t .loop .i * g .size in
     rw (add-sub-cancel-left at (g .size), add-sub-cancel-left from (g .size))
     (length-mid (g .t6) from (g .size) (omega (arith, row (search))) ∙ sym (length-mid (t .loop .dst) at (g .size) (omega (arith, piece (search)))))
