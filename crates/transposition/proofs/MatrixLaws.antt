@@ -1,6 +1,6 @@
 -- A matrix whose transpose a buffer nears: a column, a row or a tile of it that is moved, and rows done so far.
 -- Assumes nothing.
-use mathlib.Core.Path.{_≡_, sym, ap, _∙_}
+use mathlib.Core.Path.{_≡_, sym, ap, subst, _∙_}
 use mathlib.Core.List.{List}
 use mathlib.Core.Logic.{⊎-elim}
 use Prim.Native.Nat.{ℕ, _+_, _-_, _*_, _^_, _≤_, _<_}
@@ -51,32 +51,31 @@ near-after {goal} {s} {t} {u} {done} {count} {c} {size} {r} {rows} w n l =
         let e : r + c * rows + (i - c) * rows + j ≡ r + i * rows + j = omega arith in
         rw e at (n .right (i - c) j (omega arith) g)
 
+-- of the first rows
+pub near-first : {goal s t u : List ℕ} {done count c size rows : ℕ} → Nears goal s t done size 0 rows → Nears goal t u count size (c * rows) rows → c ≤ done
+    → Nears goal s u (c + count) size 0 rows
+near-first {goal} {s} {t} {u} {done} {count} {c} {size} {rows} w n l =
+    let e : c * rows ≡ 0 + c * rows = omega arith in
+    near-after w (subst (λ (x : ℕ). Nears goal t u count size x rows) e n) l
+
 -- each tile goes further than the one before
 pub further : {at size end start : ℕ} → Start at size end start → at < end → 0 < size → end - (start + size) < end - at
 further {at} {size} {end} {start} s h p = ⊎-elim (λ (e : start ≡ at). omega (arith, s .within)) (λ (e : start + size ≡ end). omega arith) (s .last)
 
--- tiles that span some of the few
-module _ (few many span : ℕ) (s : Spans few many span) (some : span ≡ 0 → ⊥) where
-  positive : 1 ≤ span
-  positive = omega arith
+-- tiles that span two of the few
+pub two : {few many span : ℕ} → Spans few many span → span ≡ 1 → (few ≡ 2) × (64 ≤ many)
+two s e = (s .pair e, rw e at (s .fits (omega arith) .1))
 
+-- tiles that span four or eight of them
+module _ (few many span : ℕ) (s : Spans few many span) (some : span ≡ 0 → ⊥) (more : span ≡ 1 → ⊥) where
   pub suits-tall : Suits many few (7 - span)
   suits-tall =
       let e : 7 - (7 - span) ≡ span = omega (arith, s .most) in
-      let f = s .fits positive in
-      record {
-        least = omega (arith, s .most);
-        most = omega (arith, positive);
-        high = f .1;
-        wide = rw e (f .0);
-        whole-rows = λ h. s .pair (omega (arith, s .most));
-        whole-columns = λ h. absurd (omega (arith, s .most));
-      }
+      let f = s .fits (omega arith) in
+      record { least = omega (arith, s .most); most = omega arith; high = f .1; wide = rw e (f .0) }
 
   pub suits-wide : Suits few many span
-  suits-wide =
-      let f = s .fits positive in
-      record { least = positive; most = omega (arith, s .most); high = f .0; wide = f .1; whole-rows = λ h. absurd (omega (arith, s .most)); whole-columns = λ h. s .pair h }
+  suits-wide = let f = s .fits (omega arith) in record { least = omega arith; most = omega (arith, s .most); high = f .0; wide = f .1 }
 
 module _ (rows columns : ℕ) (source : List ℕ) (size : length source ≡ rows * columns) where
   -- all rows, or all columns

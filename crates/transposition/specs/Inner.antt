@@ -58,14 +58,12 @@ pub record TileIn (log from from-stride source to to-stride target : ℕ) : Type
 
 -- ---- which tiles
 
--- tiles of 2^log rows suit a matrix: those of 64 rows are of whole rows, and those of 2 of whole columns
+-- tiles of 2^log rows suit a matrix
 pub record Suits (rows columns log : ℕ) : Type 0 where
-  pub least : 1 ≤ log
-  pub most : log ≤ 6
+  pub least : 2 ≤ log
+  pub most : log ≤ 5
   pub high : 2 ^ log ≤ rows
   pub wide : 2 ^ (7 - log) ≤ columns
-  pub whole-rows : log ≡ 6 → columns ≡ 2
-  pub whole-columns : log ≡ 1 → rows ≡ 2
 
 -- a tile that begins no later than `at` and ends by `end`; where it begins earlier, it ends there
 pub record Start (at size end start : ℕ) : Type 0 where

@@ -194,7 +194,7 @@ fn move_2_by_64(src: &[u8], from: usize, from_stride: usize, dst: &mut [u8], to:
     store(dst, to, 0, 1, 128, turned);
 }
 
-// A tile of 2^log rows.
+// A tile of 2^log rows, 4 to 32.
 fn move_tile(
     src: &[u8],
     from: usize,
@@ -204,8 +204,7 @@ fn move_tile(
     to_stride: usize,
     log: usize,
 )
-    requires { ⌜ (1 ≤ log) × (log ≤ 6) × TileIn log from «from_stride» (length (now src)) to «to_stride» (length (now dst)) ⌝ }
-    requires { ⌜ (log ≡ 6 → «from_stride» ≡ 2) × (log ≡ 1 → «to_stride» ≡ 2) ⌝ }
+    requires { ⌜ (2 ≤ log) × (log ≤ 5) × TileIn log from «from_stride» (length (now src)) to «to_stride» (length (now dst)) ⌝ }
     ensures { λ _. ⌜ Turned (now (src .entry)) from «from_stride» (now (dst .entry)) (now (dst .exit)) to «to_stride» log ⌝ }
 {
     if log == 4 {
@@ -220,15 +219,7 @@ fn move_tile(
         move_32_by_4(src, from, from_stride, dst, to, to_stride);
         return;
     }
-    if log == 2 {
-        move_4_by_32(src, from, from_stride, dst, to, to_stride);
-        return;
-    }
-    if log == 6 {
-        move_64_by_2(src, from, dst, to, to_stride);
-        return;
-    }
-    move_2_by_64(src, from, from_stride, dst, to);
+    move_4_by_32(src, from, from_stride, dst, to, to_stride);
 }
 
 // Where a tile that would begin at `at` begins, so that it ends by the end: the last one may overlap the one before it.
@@ -272,6 +263,32 @@ fn by_tiles(src: &[u8], rows: usize, columns: usize, dst: &mut [u8], log: usize)
     }
 }
 
+// The transpose of a matrix of two columns. A loop of its own spares it what the other tiles need.
+fn of_two_columns(src: &[u8], rows: usize, dst: &mut [u8])
+    requires { ⌜ (64 ≤ rows) × (length (now src) ≡ rows * 2) × (length (now dst) ≡ rows * 2) ⌝ }
+    ensures { λ _. ⌜ now (dst .exit) ≡ transposed rows 2 (now (src .entry)) ⌝ }
+{
+    let mut done: usize = 0;
+    while done < rows {
+        let r = tile_start(done, 64, rows);
+        move_64_by_2(src, r * 2, dst, r, rows);
+        done = r + 64;
+    }
+}
+
+// The transpose of a matrix of two rows.
+fn of_two_rows(src: &[u8], columns: usize, dst: &mut [u8])
+    requires { ⌜ (64 ≤ columns) × (length (now src) ≡ 2 * columns) × (length (now dst) ≡ 2 * columns) ⌝ }
+    ensures { λ _. ⌜ now (dst .exit) ≡ transposed 2 columns (now (src .entry)) ⌝ }
+{
+    let mut done: usize = 0;
+    while done < columns {
+        let c = tile_start(done, 64, columns);
+        move_2_by_64(src, c, columns, dst, c * 2);
+        done = c + 64;
+    }
+}
+
 // Tiles span 2^(what this gives) of `few` and 128 / 2^(that) of `many`: 8 and 16, 4 and 32, or 2 and 64. 0 where none of these fits, or
 // `few` is three: pieces of two bytes that lie apart take longer than single bytes.
 fn tile_span(few: usize, many: usize) -> usize
@@ -308,6 +325,10 @@ fn transpose_tall(src: &[u8], rows: usize, columns: usize, dst: &mut [u8])
         by_columns(src, rows, columns, dst);
         return;
     }
+    if span == 1 {
+        of_two_columns(src, rows, dst);
+        return;
+    }
     by_tiles(src, rows, columns, dst, 7 - span);
 }
 
@@ -319,6 +340,10 @@ fn transpose_wide(src: &[u8], rows: usize, columns: usize, dst: &mut [u8])
     let span = tile_span(rows, columns);
     if span == 0 {
         by_rows(src, rows, columns, dst);
+        return;
+    }
+    if span == 1 {
+        of_two_rows(src, columns, dst);
         return;
     }
     by_tiles(src, rows, columns, dst, span);

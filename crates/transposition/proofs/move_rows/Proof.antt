@@ -51,7 +51,7 @@ move-tile-requires : tie.Need-move-tile-requires Inv-loop μ-loop
 move-tile-requires c κs =
     let e : Place tie.Start = search in
     let s = e .pre .1 .0 in
-    ((s .least, s .most, tile (search)), (s .whole-rows, s .whole-columns))
+    (s .least, s .most, tile (search))
 
 loop-less : tie.Need-loop-less Inv-loop μ-loop
 loop-less c =

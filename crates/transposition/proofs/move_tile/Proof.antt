@@ -7,44 +7,32 @@ use Rattle.transposition.proofs.move_tile.Statement.{statement}
 use Rattle.transposition.proofs.move_tile.Tie as tie
 
 move-16-by-8-requires : tie.Need-move-16-by-8-requires
-move-16-by-8-requires c κs = let e : tie.Start = search in let i : tie.Then1 = search in rw (i .if1 .taken) at (e .pre .0 .2)
+move-16-by-8-requires c κs = let e : tie.Start = search in let i : tie.Then1 = search in rw (i .if1 .taken) at (e .pre .2)
 
 returns : tie.Need-returns
 returns c = let i : tie.Then1 = search in let w : tie.After-move-16-by-8 = search in rw (i .if1 .taken) (w .move-16-by-8 .ensures)
 
 move-8-by-16-requires : tie.Need-move-8-by-16-requires
-move-8-by-16-requires c κs = let e : tie.Start = search in let i : tie.Then2 = search in rw (i .if2 .taken) at (e .pre .0 .2)
+move-8-by-16-requires c κs = let e : tie.Start = search in let i : tie.Then2 = search in rw (i .if2 .taken) at (e .pre .2)
 
 returns-2 : tie.Need-returns-2
 returns-2 c = let i : tie.Then2 = search in let w : tie.After-move-8-by-16 = search in rw (i .if2 .taken) (w .move-8-by-16 .ensures)
 
 move-32-by-4-requires : tie.Need-move-32-by-4-requires
-move-32-by-4-requires c κs = let e : tie.Start = search in let i : tie.Then3 = search in rw (i .if3 .taken) at (e .pre .0 .2)
+move-32-by-4-requires c κs = let e : tie.Start = search in let i : tie.Then3 = search in rw (i .if3 .taken) at (e .pre .2)
 
 returns-3 : tie.Need-returns-3
 returns-3 c = let i : tie.Then3 = search in let w : tie.After-move-32-by-4 = search in rw (i .if3 .taken) (w .move-32-by-4 .ensures)
 
+-- what is left is 2
+two : (c : tie.Else3) → c .before .before .before .before .before .args .log ≡ 2
+two c = let e : tie.Start = search in omega (arith, e .pre .0, e .pre .1)
+
 move-4-by-32-requires : tie.Need-move-4-by-32-requires
-move-4-by-32-requires c κs = let e : tie.Start = search in let i : tie.Then4 = search in rw (i .if4 .taken) at (e .pre .0 .2)
+move-4-by-32-requires c κs = let e : tie.Start = search in rw (two (search)) at (e .pre .2)
 
 returns-4 : tie.Need-returns-4
-returns-4 c = let i : tie.Then4 = search in let w : tie.After-move-4-by-32 = search in rw (i .if4 .taken) (w .move-4-by-32 .ensures)
-
-move-64-by-2-requires : tie.Need-move-64-by-2-requires
-move-64-by-2-requires c κs = let e : tie.Start = search in let i : tie.Then5 = search in rw (i .if5 .taken, e .pre .1 .0 (i .if5 .taken)) at (e .pre .0 .2)
-
-returns-5 : tie.Need-returns-5
-returns-5 c = let e : tie.Start = search in let i : tie.Then5 = search in let w : tie.After-move-64-by-2 = search in rw (i .if5 .taken, e .pre .1 .0 (i .if5 .taken)) (w .move-64-by-2 .ensures)
-
--- what is left is 1
-one : (c : tie.Else5) → c .before .before .before .before .before .before .before .args .log ≡ 1
-one c = let e : tie.Start = search in omega (arith, e .pre .0 .0, e .pre .0 .1)
-
-move-2-by-64-requires : tie.Need-move-2-by-64-requires
-move-2-by-64-requires c κs = let e : tie.Start = search in let o = one (search) in rw (o, e .pre .1 .1 o) at (e .pre .0 .2)
-
-returns-6 : tie.Need-returns-6
-returns-6 c = let e : tie.Start = search in let w : tie.After-move-2-by-64 = search in let o = one (search) in rw (o, e .pre .1 .1 o) (w .move-2-by-64 .ensures)
+returns-4 c = let w : tie.After-move-4-by-32 = search in rw (two (search)) (w .move-4-by-32 .ensures)
 
 pub move-tile-spec : {M : Type 1} → statement M
 move-tile-spec =
@@ -61,10 +49,4 @@ move-tile-spec =
     returns-3
     move-4-by-32-requires
     (λ c. search needs)
-    returns-4
-    move-64-by-2-requires
-    (λ c. search needs)
-    returns-5
-    move-2-by-64-requires
-    (λ c. search needs)
-    returns-6)
+    returns-4)
