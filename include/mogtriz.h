@@ -154,7 +154,7 @@ MOGTRIZ_CALL uint8_t mogtriz_encode(size_t family, size_t k, size_t len, const u
 /*
  * An object interleaved: byte t of it, from 0, goes to block t % k + 1 at place t / k, which is byte (t % k) * len + t / k of `out`. So
  * `out` is k blocks of len bytes, an object for mogtriz_encode. With k 3 and len 2, abcdef becomes adbecf.
- * `out` is another buffer, with no byte of the object's: no object is interleaved in place.
+ * `out` must not overlap the object: none is interleaved in place.
  * Gives 0 or: 1, 2, 3, then 6 where object_len or out_len is not k * len. A refusal writes nothing.
  */
 MOGTRIZ_CALL uint8_t mogtriz_interleave(size_t family, size_t k, size_t len, const uint8_t *object, size_t object_len, uint8_t *out,

@@ -1,5 +1,6 @@
 -- What is proved of the C interface besides each function's own equations: a session handed to C and back is the same session,
--- and the calls of C keep the promises of the library. proofs/Proved.antt and proofs/CallsProved.antt have the proofs.
+-- and the calls of C keep the promises of the library. proofs/Proved.antt, CallsProved.antt, InterleavedProved.antt and GradedProved.antt
+-- have the proofs.
 use mathlib.Core.Path.{_≡_}
 use mathlib.Core.Bool.{true, false, cond}
 use mathlib.Core.List.{List, _∷_, _++_}
