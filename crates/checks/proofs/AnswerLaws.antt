@@ -3,11 +3,11 @@
 -- Assumes nothing.
 use mathlib.Core.Path.{_≡_, refl, sym, ap, _∙_}
 use mathlib.Core.Bool.{Bool, true, false, cond}
-use mathlib.Core.List.{List}
+use mathlib.Core.List.{List, [], _∷_}
 use Prim.Native.Nat.{ℕ}
 use borrow.Author.Tests.{eqb-true, ne-eqb}
 use lib.Dec.{eqb}
-use Rattle.checks.specs.Checks.{Check, firstMet, answer, afterwards}
+use Rattle.checks.specs.Checks.{Check, _gives_, firstMet, answer, afterwards}
 
 -- ---- a lent buffer
 
@@ -17,6 +17,19 @@ module _ (checks : List Check) (served before : List ℕ) where
 
   pub after-refused : (firstMet checks ≡ 0 → ⊥) → afterwards checks served before ≡ before
   after-refused h = rw (ne-eqb (firstMet checks) 0 h)
+
+-- ---- a number that is not given
+
+-- a check that gives it is not met
+abbrev pub Never : ℕ → List Check → Type 0
+Never n [] = Unit {0}
+Never n ((met gives number) ∷ checks) = (met ≡ true → number ≡ n → ⊥) × Never n checks
+
+pub never-met : (n : ℕ) (checks : List Check) → (n ≡ 0 → ⊥) → Never n checks → firstMet checks ≡ n → ⊥
+unfolding firstMet
+never-met n [] z v e = z (sym e)
+never-met n ((true gives number) ∷ checks) z v e = v .0 refl e
+never-met n ((false gives number) ∷ checks) z v e = never-met n checks z (v .1) e
 
 -- ---- an answer
 
@@ -46,6 +59,14 @@ module _ {A : Type 0} (checks : List Check) (served : A) (refused : ℕ → A) w
         go true p h = eqb-true (firstMet checks) 0 p
         go false p h = sym (number-is (firstMet checks)) ∙ h
 
+    -- a number that is not given is not the answer's
+    pub never-answered : number served ≡ 0 → (n : ℕ) → (n ≡ 0 → ⊥) → Never n checks → number (answer checks served refused) ≡ n → ⊥
+    never-answered served-0 n z v e = go (eqb (firstMet checks) 0) e
+      where
+        go : (b : Bool) → number (cond b served (refused (firstMet checks))) ≡ n → ⊥
+        go true h = z (sym h ∙ served-0)
+        go false h = never-met n checks z v (sym (number-is (firstMet checks)) ∙ h)
+
     module _ (served-0 : number served ≡ 0) (h : number (answer checks served refused) ≡ 0 → ⊥) where
       -- refused, one is
       pub one-met : firstMet checks ≡ 0 → ⊥
@@ -63,8 +84,8 @@ module _ {A : Type 0} (checks : List Check) (served : A) (refused : ℕ → A) w
 -- ---- a call with a lent buffer
 
 -- what holds of the service and what it leaves, and of every refusal and what was there, holds of the two together
-pub call-either : {A : Type 0} (checks : List Check) (served : A) (refused : ℕ → A) (left before : List ℕ) (P : A → List ℕ → Type 0)
-    → P served left → ((number : ℕ) → P (refused number) before) → P (answer checks served refused) (afterwards checks left before)
+pub call-either : {A B : Type 0} (checks : List Check) (served : A) (refused : ℕ → A) (left before : B) (P : A → B → Type 0)
+    → P served left → ((number : ℕ) → P (refused number) before) → P (answer checks served refused) (cond (eqb (firstMet checks) 0) left before)
 call-either checks served refused left before P s r = go (eqb (firstMet checks) 0)
   where
     go : (b : Bool) → P (cond b served (refused (firstMet checks))) (cond b left before)

@@ -18,7 +18,7 @@ use Rattle.checks.specs.Checks.{firstMet}
 use Rattle.checks.specs.Claims.{NoneMet}
 use Rattle.base.proofs.RangeLaws.{inside, outside-high, outside-no}
 use Rattle.checks.proofs.Laws.{accepted}
-use Rattle.lists.specs.Lists.{someOutside, rises, listChecks, placeIn, isIn, noneLive, isLive, setLive, someMissing, liveOutside, liveNodes}
+use Rattle.lists.specs.Lists.{someOutside, rises, listChecks, placeIn, isIn, noneLive, isLive, setLive, someMissing, passesOutside, liveOutside, liveNodes}
 
 -- a list that is not refused meets neither 4 nor 5
 pub list-accepted : (n : ℕ) (list : List ℕ) → firstMet (listChecks n list) ≡ 0 → NoneMet (listChecks n list)
@@ -276,26 +276,42 @@ module _ (marks : List Bool) where
   pub live-nodes-live : (n : ℕ) → someMissing marks (liveNodes marks n) ≡ false
   live-nodes-live n = live-live 1 n
 
--- ---- live marks outside 1 to n
+-- ---- numbers outside 1 to n that pass a test
 
--- where there is none, every live number lies in 1 to n
-live-within : (n : ℕ) (marks : List Bool) → liveOutside n marks ≡ false → (i : ℕ) → i < 256 → isLive marks i ≡ true → (1 ≤ i) × (i ≤ n)
-unfolding liveOutside
-live-within n marks o i h t = has-inside n (thoseFrom (isLive marks) 0 256) i o (has-those (isLive marks) 0 256 i (omega arith) (omega arith) ∙ t)
+module _ (n : ℕ) (test : ℕ → Bool) where
+  -- where there is none, every number that passes lies in 1 to n
+  pub passes-within : passesOutside n test ≡ false → (i : ℕ) → i < 256 → test i ≡ true → (1 ≤ i) × (i ≤ n)
+  unfolding passesOutside
+  passes-within o i h t = has-inside n (thoseFrom test 0 256) i o (has-those test 0 256 i (omega arith) (omega arith) ∙ t)
+
+  -- and the other way round
+  pub passes-inside : ((i : ℕ) → i < 256 → test i ≡ true → (1 ≤ i) × (i ≤ n)) → passesOutside n test ≡ false
+  unfolding passesOutside
+  passes-inside h = those-inside test n 0 256 (λ i l g. h i (omega arith))
+
+-- a test that passes at one number more, which lies in 1 to n
+pub passes-one-more : (n : ℕ) (test more : ℕ → Bool) (j : ℕ) → 1 ≤ j → j ≤ n → ((i : ℕ) → (i ≡ j → ⊥) → more i ≡ test i)
+    → passesOutside n test ≡ false → passesOutside n more ≡ false
+passes-one-more n test more j h g same o = passes-inside n more (λ i l t. go i l t (ℕ-discrete i j))
+  where
+    go : (i : ℕ) → i < 256 → more i ≡ true → Dec (i ≡ j) → (1 ≤ i) × (i ≤ n)
+    go i l t (yes e) = (omega arith, omega arith)
+    go i l t (no e) = passes-within n test o i l (sym (same i e) ∙ t)
 
 pub list-outside-none : (n : ℕ) (list : List ℕ) → n ≤ 255 → someOutside n list ≡ false → liveOutside n (setLive noneLive list) ≡ false
-unfolding liveOutside
 list-outside-none n list h o =
-    those-inside (isLive (setLive noneLive list)) n 0 256 (λ i l g t. has-inside n list i o (sym (live-of-list list i (omega arith) (outside-more n 255 list h o)) ∙ t))
+    passes-inside n (isLive (setLive noneLive list)) (λ i l t. has-inside n list i o (sym (live-of-list list i l (outside-more n 255 list h o)) ∙ t))
 
 -- a node set live is not outside
 pub set-outside-none : (n : ℕ) (marks : List Bool) (j : ℕ) → 1 ≤ j → j ≤ n → liveOutside n marks ≡ false → liveOutside n (set marks j true) ≡ false
-unfolding liveOutside
-set-outside-none n marks j h g o = those-inside (isLive (set marks j true)) n 0 256 (λ i l m t. go i (omega arith) t (ℕ-discrete i j))
-  where
-    go : (i : ℕ) → i < 256 → isLive (set marks j true) i ≡ true → Dec (i ≡ j) → (1 ≤ i) × (i ≤ n)
-    go i l t (yes e) = (omega arith, omega arith)
-    go i l t (no e) = live-within n marks o i l (sym (getD-set-other marks j i true false e) ∙ t)
+set-outside-none n marks j h g o = passes-one-more n (isLive marks) (isLive (set marks j true)) j h g (λ i e. getD-set-other marks j i true false e) o
+
+pub live-outside-none : (n : ℕ) (marks : List Bool) (list : List ℕ) → someOutside n list ≡ false → liveOutside n marks ≡ false → liveOutside n (setLive marks list) ≡ false
+unfolding setLive
+live-outside-none n marks [] l o = o
+live-outside-none n marks (x ∷ list) l o =
+    let p = outside-both n x list l in
+    live-outside-none n (set marks x true) list (p .1) (set-outside-none n marks x (p .0 .0) (p .0 .1) o)
 
 -- ---- a rising list and its marks
 
@@ -317,4 +333,4 @@ marks-of-live-nodes n marks l h o =
     same i g =
         same-answer (isIn (liveNodes marks n) i) (isLive marks i)
         (λ t. sym (node i (has-inside n (liveNodes marks n) i (live-nodes-inside marks n) t)) ∙ t)
-        (λ t. node i (live-within n marks o i g t) ∙ t)
+        (λ t. node i (passes-within n (isLive marks) o i g t) ∙ t)

@@ -11,8 +11,8 @@ use lib.ListN.{length, drop, getD, set, replicate, drop-of-length-le, length-app
 use lib.Seq.{drop-cons, set-append-seam}
 use Rattle.base.specs.Ranges.{thoseFrom, outside}
 use Rattle.base.proofs.RangeLaws.{those-append, outside-high}
-use Rattle.lists.specs.Lists.{someOutside, rises, placeIn, isLive, setLive, someMissing, liveOutside, liveNodes}
-use Rattle.lists.proofs.Laws.{inside-append, live-nodes-inside}
+use Rattle.lists.specs.Lists.{someOutside, rises, placeIn, isLive, setLive, someMissing, passesOutside, liveNodes}
+use Rattle.lists.proofs.Laws.{inside-append, nodes-inside}
 
 -- ---- a list, from place i on
 
@@ -65,60 +65,61 @@ rises-end (x ∷ []) zero h = refl
 rises-end (x ∷ y ∷ list) zero h = absurd (omega arith)
 rises-end (x ∷ list) (suc i) h = rises-end list i (omega arith)
 
--- ---- the live numbers outside 1 to n, from j on
+-- ---- the numbers outside 1 to n that pass a test, from j on
 
-outside-those : (n : ℕ) (marks : List Bool) (j m : ℕ) → someOutside n (thoseFrom (isLive marks) j (suc m)) ≡ ((isLive marks j && outside 1 n j) || someOutside n (thoseFrom (isLive marks) (suc j) m))
-unfolding someOutside thoseFrom
-outside-those n marks j m = go (isLive marks j) (thoseFrom (isLive marks) (suc j) m)
-  where
-    go : (b : Bool) (later : List ℕ) → someOutside n (cond b (j ∷ later) later) ≡ ((b && outside 1 n j) || someOutside n later)
-    go true later = refl
-    go false later = refl
+module _ (n : ℕ) (test : ℕ → Bool) where
+  outside-those : (j m : ℕ) → someOutside n (thoseFrom test j (suc m)) ≡ ((test j && outside 1 n j) || someOutside n (thoseFrom test (suc j) m))
+  unfolding someOutside thoseFrom
+  outside-those j m = go (test j) (thoseFrom test (suc j) m)
+    where
+      go : (b : Bool) (later : List ℕ) → someOutside n (cond b (j ∷ later) later) ≡ ((b && outside 1 n j) || someOutside n later)
+      go true later = refl
+      go false later = refl
 
--- mark 0 and those from n + 1 on are asked, as far as j
-pub record Asked (n : ℕ) (marks : List Bool) (j : ℕ) : Type 0 where
-  pub above : n < j
-  pub rest : liveOutside n marks ≡ someOutside n (thoseFrom (isLive marks) j (256 - j))
+  -- 0 and the numbers from n + 1 on are asked, as far as j
+  pub record Asked (j : ℕ) : Type 0 where
+    pub above : n < j
+    pub rest : passesOutside n test ≡ someOutside n (thoseFrom test j (256 - j))
 
-pub zero-live : (n : ℕ) (marks : List Bool) → isLive marks 0 ≡ true → liveOutside n marks ≡ true
-unfolding liveOutside
-zero-live n marks e = outside-those n marks 0 255 ∙ simp e
+  pub zero-passes : test 0 ≡ true → passesOutside n test ≡ true
+  unfolding passesOutside
+  zero-passes e = outside-those 0 255 ∙ simp e
 
-pub asked-zero : {n : ℕ} {marks : List Bool} → n ≤ 255 → isLive marks 0 ≡ false → Asked n marks (n + 1)
-unfolding liveOutside
-asked-zero {n} {marks} h e =
-    let all : 255 ≡ n + (255 - n) = omega arith in
-    let next : 1 + n ≡ n + 1 = omega arith in
-    let left : 255 - n ≡ 256 - (n + 1) = omega arith in
-    record {
-      above = omega arith;
-      rest =
-          outside-those n marks 0 255
-          ∙ simp e
-          (ap (λ (m : ℕ). someOutside n (thoseFrom (isLive marks) 1 m)) all
-          ∙ rw (those-append (isLive marks) 1 n (255 - n), inside-append n (liveNodes marks n) (thoseFrom (isLive marks) (1 + n) (255 - n)) (live-nodes-inside marks n), next, left));
-    }
+  pub asked-zero : n ≤ 255 → test 0 ≡ false → Asked (n + 1)
+  unfolding passesOutside
+  asked-zero h e =
+      let all : 255 ≡ n + (255 - n) = omega arith in
+      let next : 1 + n ≡ n + 1 = omega arith in
+      let left : 255 - n ≡ 256 - (n + 1) = omega arith in
+      record {
+        above = omega arith;
+        rest =
+            outside-those 0 255
+            ∙ simp e
+            (ap (λ (m : ℕ). someOutside n (thoseFrom test 1 m)) all
+            ∙ rw (those-append test 1 n (255 - n), inside-append n (thoseFrom test 1 n) (thoseFrom test (1 + n) (255 - n)) (nodes-inside test n), next, left));
+      }
 
-module _ {n : ℕ} {marks : List Bool} {j : ℕ} (w : Asked n marks j) where
-  step : j < 256 → liveOutside n marks ≡ (isLive marks j || someOutside n (thoseFrom (isLive marks) (j + 1) (256 - (j + 1))))
+module _ {n : ℕ} {test : ℕ → Bool} {j : ℕ} (w : Asked n test j) where
+  step : j < 256 → passesOutside n test ≡ (test j || someOutside n (thoseFrom test (j + 1) (256 - (j + 1))))
   step h =
       let e : 256 - j ≡ suc (256 - (j + 1)) = omega arith in
       w .rest
-      ∙ ap (λ (m : ℕ). someOutside n (thoseFrom (isLive marks) j m)) e
-      ∙ outside-those n marks j (256 - (j + 1))
+      ∙ ap (λ (m : ℕ). someOutside n (thoseFrom test j m)) e
+      ∙ outside-those n test j (256 - (j + 1))
       ∙ simp (outside-high 1 n j (w .above), and-true, ← add-one)
 
-  pub asked-live : j < 256 → isLive marks j ≡ true → liveOutside n marks ≡ true
-  asked-live h e = step h ∙ rw e
+  pub asked-passes : j < 256 → test j ≡ true → passesOutside n test ≡ true
+  asked-passes h e = step h ∙ rw e
 
-  pub asked-more : j < 256 → isLive marks j ≡ false → Asked n marks (j + 1)
+  pub asked-more : j < 256 → test j ≡ false → Asked n test (j + 1)
   asked-more h e = record { above = omega (arith, w .above); rest = step h ∙ rw e }
 
-  pub asked-all : 256 ≤ j → liveOutside n marks ≡ false
+  pub asked-all : 256 ≤ j → passesOutside n test ≡ false
   unfolding someOutside thoseFrom
   asked-all h =
       let e : 256 - j ≡ 0 = omega arith in
-      w .rest ∙ ap (λ (m : ℕ). someOutside n (thoseFrom (isLive marks) j m)) e
+      w .rest ∙ ap (λ (m : ℕ). someOutside n (thoseFrom test j m)) e
 
 -- ---- a list filled up
 

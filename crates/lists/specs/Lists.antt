@@ -49,9 +49,13 @@ unfoldable pub someMissing : List Bool → List ℕ → Bool
 someMissing marks [] = false
 someMissing marks (j ∷ list) = not (isLive marks j) || someMissing marks list
 
--- a mark for 0 or above n is live: one of the live numbers of 0 to 255 is no node's
-unfoldable pub liveOutside : ℕ → List Bool → Bool
-liveOutside n marks = someOutside n (thoseFrom (isLive marks) 0 256)
+-- one of the numbers 0 to 255 that pass a test is 0 or above n
+unfoldable pub passesOutside : ℕ → (ℕ → Bool) → Bool
+passesOutside n test = someOutside n (thoseFrom test 0 256)
+
+-- a mark for 0 or above n is live
+abbrev pub liveOutside : ℕ → List Bool → Bool
+liveOutside n marks = passesOutside n (isLive marks)
 
 -- the live nodes of 1 to n
 abbrev pub liveNodes : List Bool → ℕ → List ℕ

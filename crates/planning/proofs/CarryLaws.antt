@@ -15,7 +15,9 @@ use Rattle.families.proofs.Laws.{related-differ, related-turn}
 use Rattle.blocks.proofs.BlockLaws.{in-buffer, length-withBlock}
 use Rattle.blocks.proofs.PartLaws.{length-blockOf}
 use Rattle.blocks.proofs.XorBytes.{length-xorBytes}
-use Rattle.planning.specs.Plan.{Step, stepBytes}
+use Rattle.counts.specs.Counts.{countOf, oneMore, countAll, sumOf}
+use Rattle.counts.proofs.Laws.{count-most, sum-one-most}
+use Rattle.planning.specs.Plan.{Step, sourcesOf, stepBytes}
 use Rattle.planning.specs.Claims.{CanMake, CanMakeAll}
 use Rattle.planning.specs.Made.{mended, nodesMade, stepsIn}
 use Rattle.planning.specs.Inner.{StepIn, AllIn}
@@ -42,36 +44,53 @@ length-mended {L} {j} {a} {b} {nodes} hj ha hb =
     length-withBlock L nodes j (xorBytes (blockOf L nodes a) (blockOf L nodes b)) hj
     (length-xorBytes (blockOf L nodes a) (blockOf L nodes b) (length-blockOf ha ∙ sym (length-blockOf hb)) ∙ length-blockOf ha)
 
+-- ---- steps taken one by one from their bytes
+
+module _ (bytes : List ℕ) (count i : ℕ) where
+  -- those from step i on, from 0
+  abbrev pub stepsFrom : List Step
+  stepsFrom = stepsIn (drop (4 * i) bytes) (count - i)
+
+  -- step i
+  abbrev pub stepAt : Step
+  stepAt = record { round = getD bytes (4 * i) 0; node = getD bytes (4 * i + 1) 0; smaller = getD bytes (4 * i + 2) 0; larger = getD bytes (4 * i + 3) 0 }
+
+pub from-first : (bytes : List ℕ) (count : ℕ) → stepsFrom bytes count 0 ≡ stepsIn bytes count
+from-first bytes count = let e : count - 0 ≡ count = omega arith in rw e
+
+pub from-next : (bytes : List ℕ) (count i : ℕ) → i < count → stepsFrom bytes count i ≡ stepAt bytes count i ∷ stepsFrom bytes count (i + 1)
+unfolding stepsIn
+from-next bytes count i h =
+    let e : count - i ≡ suc (count - (i + 1)) = omega arith in
+    let f : 4 * i + 0 ≡ 4 * i = omega arith in
+    let d : 4 * (i + 1) ≡ 4 * i + 4 = omega arith in
+    let g : (p : ℕ) → getD (drop (4 * i) bytes) p 0 ≡ getD bytes (4 * i + p) 0 = λ p. rw getD-drop in
+    ap (stepsIn (drop (4 * i) bytes)) e ∙ rw (g 0, g 1, g 2, g 3, f, drop-drop 4 (4 * i) bytes, d)
+
+pub from-last : (bytes : List ℕ) (count i : ℕ) → count ≤ i → stepsFrom bytes count i ≡ []
+unfolding stepsIn
+from-last bytes count i h = let e : count - i ≡ 0 = omega arith in ap (stepsIn (drop (4 * i) bytes)) e
+
+-- ---- steps carried out
+
 -- the first i of the steps are made
 pub record Carried (L : ℕ) (bytes : List ℕ) (count : ℕ) (start nodes : List ℕ) (i : ℕ) : Type 0 where
   pub room : 4 * count ≤ length bytes
   pub within : i ≤ count
   pub kept : length nodes ≡ length start
-  pub inside : AllIn L nodes (stepsIn (drop (4 * i) bytes) (count - i))
-  pub rest : nodesMade L start (stepsIn bytes count) ≡ nodesMade L nodes (stepsIn (drop (4 * i) bytes) (count - i))
+  pub inside : AllIn L nodes (stepsFrom bytes count i)
+  pub rest : nodesMade L start (stepsIn bytes count) ≡ nodesMade L nodes (stepsFrom bytes count i)
 
 pub carry-none : {L count : ℕ} {bytes nodes : List ℕ} → 4 * count ≤ length bytes → AllIn L nodes (stepsIn bytes count) → Carried L bytes count nodes nodes 0
-carry-none {count = count} h a = let e : count - 0 ≡ count = omega arith in record { room = h; within = omega arith; kept = refl; inside = rw e a; rest = rw e }
+carry-none {count = count} {bytes = bytes} h a =
+    let e = from-first bytes count in record { room = h; within = omega arith; kept = refl; inside = rw e a; rest = rw e }
 
 module _ {L : ℕ} {bytes : List ℕ} {count : ℕ} {start nodes : List ℕ} {i : ℕ} (w : Carried L bytes count start nodes i) where
   module _ (h : i < count) where
-    -- step i, from 0
-    abbrev here : Step
-    here = record { round = getD bytes (4 * i) 0; node = getD bytes (4 * i + 1) 0; smaller = getD bytes (4 * i + 2) 0; larger = getD bytes (4 * i + 3) 0 }
+    both : StepIn L nodes (stepAt bytes count i) × AllIn L nodes (stepsFrom bytes count (i + 1))
+    both = subst (AllIn L nodes) (from-next bytes count i h) (w .inside)
 
-    next : stepsIn (drop (4 * i) bytes) (count - i) ≡ here ∷ stepsIn (drop (4 * (i + 1)) bytes) (count - (i + 1))
-    unfolding stepsIn
-    next =
-        let e : count - i ≡ suc (count - (i + 1)) = omega arith in
-        let f : 4 * i + 0 ≡ 4 * i = omega arith in
-        let d : 4 * (i + 1) ≡ 4 * i + 4 = omega arith in
-        let g : (p : ℕ) → getD (drop (4 * i) bytes) p 0 ≡ getD bytes (4 * i + p) 0 = λ p. rw getD-drop in
-        ap (stepsIn (drop (4 * i) bytes)) e ∙ rw (g 0, g 1, g 2, g 3, f, drop-drop 4 (4 * i) bytes, d)
-
-    both : StepIn L nodes here × AllIn L nodes (stepsIn (drop (4 * (i + 1)) bytes) (count - (i + 1)))
-    both = subst (AllIn L nodes) next (w .inside)
-
-    pub carry-step : StepIn L nodes here
+    pub carry-step : StepIn L nodes (stepAt bytes count i)
     carry-step = both .0
 
     pub carry-more : Carried L bytes count start (mended L nodes (getD bytes (4 * i + 1) 0) (getD bytes (4 * i + 2) 0) (getD bytes (4 * i + 3) 0)) (i + 1)
@@ -82,15 +101,55 @@ module _ {L : ℕ} {bytes : List ℕ} {count : ℕ} {start nodes : List ℕ} {i 
           room = w .room;
           within = omega arith;
           kept = e ∙ w .kept;
-          inside = all-kept L nodes (stepsIn (drop (4 * (i + 1)) bytes) (count - (i + 1))) _ e (both .1);
-          rest = w .rest ∙ rw next;
+          inside = all-kept L nodes (stepsFrom bytes count (i + 1)) _ e (both .1);
+          rest = w .rest ∙ rw (from-next bytes count i h);
         }
 
   pub carry-done : count ≤ i → nodes ≡ nodesMade L start (stepsIn bytes count)
-  unfolding nodesMade stepsIn
-  carry-done h =
-      let e : count - i ≡ 0 = omega arith in
-      sym (w .rest ∙ ap (λ (m : ℕ). nodesMade L nodes (stepsIn (drop (4 * i) bytes) m)) e)
+  unfolding nodesMade
+  carry-done h = sym (w .rest ∙ ap (nodesMade L nodes) (from-last bytes count i h))
+
+-- ---- their reads counted
+
+-- the reads of the first i steps are counted, and there is room for the others
+pub record Counted (bytes : List ℕ) (count : ℕ) (start reads : List ℕ) (i : ℕ) : Type 0 where
+  pub room : 4 * count ≤ length bytes
+  pub within : i ≤ count
+  pub few : sumOf reads + 2 * (count - i) ≤ 65535
+  pub rest : countAll start (sourcesOf (stepsIn bytes count)) ≡ countAll reads (sourcesOf (stepsFrom bytes count i))
+
+pub count-none : {bytes : List ℕ} {count : ℕ} {reads : List ℕ} → 4 * count ≤ length bytes → sumOf reads + 2 * count ≤ 65535 → Counted bytes count reads reads 0
+count-none {bytes = bytes} {count = count} h f =
+    let e = from-first bytes count in record { room = h; within = omega arith; few = omega arith; rest = rw e }
+
+module _ {bytes : List ℕ} {count : ℕ} {start reads : List ℕ} {i : ℕ} (w : Counted bytes count start reads i) where
+  module _ (h : i < count) where
+    abbrev first : List ℕ
+    first = oneMore reads (stepAt bytes count i .smaller)
+
+    abbrev both-read : List ℕ
+    both-read = oneMore first (stepAt bytes count i .larger)
+
+    -- no count is at its most
+    pub first-low : countOf reads (stepAt bytes count i .smaller) < 65535
+    first-low = omega (arith, count-most reads (stepAt bytes count i .smaller), w .few)
+
+    pub second-low : countOf first (stepAt bytes count i .larger) < 65535
+    second-low = omega (arith, count-most first (stepAt bytes count i .larger), sum-one-most reads (stepAt bytes count i .smaller), w .few)
+
+    pub count-more : Counted bytes count start both-read (i + 1)
+    unfolding sourcesOf countAll flatMap
+    count-more =
+        record {
+          room = w .room;
+          within = omega arith;
+          few = omega (arith, sum-one-most first (stepAt bytes count i .larger), sum-one-most reads (stepAt bytes count i .smaller), w .few);
+          rest = w .rest ∙ ap (λ (steps : List Step). countAll reads (sourcesOf steps)) (from-next bytes count i h);
+        }
+
+  pub count-done : count ≤ i → reads ≡ countAll start (sourcesOf (stepsIn bytes count))
+  unfolding sourcesOf countAll flatMap
+  count-done h = sym (w .rest ∙ ap (λ (steps : List Step). countAll reads (sourcesOf steps)) (from-last bytes count i h))
 
 -- ---- the steps of a plan as they are carried out
 

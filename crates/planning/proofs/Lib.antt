@@ -4,6 +4,7 @@ pub mod SearchLaws
 pub mod Steps
 pub mod RoundLaws
 pub mod MakeLaws
+pub mod SourceLaws
 pub mod PlanLaws
 pub mod PlannedLaws
 pub mod CarryLaws

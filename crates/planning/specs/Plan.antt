@@ -33,6 +33,10 @@ roundSteps f k marks r = map (stepOf f k marks r) (thoseFrom (isRepaired f k mar
 abbrev pub repairedNodes : List Step → List ℕ
 repairedNodes steps = map (λ (step : Step). step .node) steps
 
+-- the nodes that steps read: the pair of each
+unfoldable pub sourcesOf : List Step → List ℕ
+sourcesOf steps = flatMap (λ (step : Step). step .smaller ∷ step .larger ∷ []) steps
+
 -- the marks after steps
 abbrev pub marksAfter : List Bool → List Step → List Bool
 marksAfter marks steps = setLive marks (repairedNodes steps)
