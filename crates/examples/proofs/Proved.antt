@@ -1,11 +1,11 @@
 -- The lettered examples hold: what a row says of every L and every buffer follows by laws from what is computed of it.
 -- Assumes nothing.
 use mathlib.Core.Path.{_≡_, refl, sym, ap, _∙_, subst}
-use mathlib.Core.Bool.{false}
+use mathlib.Core.Bool.{true, false}
 use mathlib.Core.List.{List, [], _∷_, _++_, append-nil, flatMap, getLastD, zipWith}
-use Prim.Native.Nat.{ℕ, _-_, _*_, _/_, _≤_}
+use Prim.Native.Nat.{ℕ, suc, _+_, _-_, _*_, _/_, _≤_}
 use native.Mathlib.Omega.{arith}
-use borrow.Author.Tests.{le-ltb, eqb-false}
+use borrow.Author.Tests.{le-ltb, ltb-true, eqb-false}
 use lib.Dec.{ltb, eqb}
 use lib.ListN.{length, getD, drop}
 use lib.Seq.{ext-getD}
@@ -19,9 +19,10 @@ use Rattle.encoding.specs.Matrix.{nodeBlock, nodesBuffer}
 use Rattle.encoding.specs.Encode.{encodeChecks, encodeAnswer, encoded}
 use Rattle.interleaving.specs.Interleaved.{interleaved, deinterleaved, interleaveChecks, interleaveAnswer, outMoved}
 use Rattle.interleaving.proofs.Answers.{kept}
-use Rattle.lists.specs.Lists.{someOutside, rises, placeIn, setLive, someMissing, liveOutside}
+use Rattle.lists.specs.Lists.{someOutside, rises, placeIn, setLive, someMissing, passesOutside}
+use Rattle.counts.specs.Counts.{countOf, countAll, sumOf}
 use Rattle.planning.specs.Pairs.{largerNode, smallerNode}
-use Rattle.planning.specs.Plan.{isRepaired, roundsFrom, planOf, marksAfter, stepBytes, lastRound, nodesLeft}
+use Rattle.planning.specs.Plan.{isRepaired, roundsFrom, planOf, sourcesOf, marksAfter, stepBytes, lastRound, nodesLeft}
 use Rattle.planning.specs.Made.{stepsIn}
 use Rattle.planning.proofs.RoundLaws.{length-bytes}
 use Rattle.planning.proofs.CarryLaws.{steps-back}
@@ -31,34 +32,39 @@ use Rattle.graded.specs.Order.{gradedTable, below}
 use Rattle.conversion.specs.Converted.{conversionChecks, newNames, newBody, renumbered, fromGraded, toGraded, converted, outConverted}
 use Rattle.conversion.proofs.Rules.{converted-refused}
 use Rattle.repair.specs.declared.Session.{Session}
-use Rattle.repair.specs.Session.{sessionOf, acceptedStart, started, startChecks, nodeCountOf, noStart, nodesChecks}
+use Rattle.repair.specs.Session.{sessionOf, acceptedStart, started, startChecks, nodeCountOf, miscounted, unsound, nodesChecks}
 use Rattle.repair.specs.Boxed.{checkedBox, readChecks, readBox, nodesRead, writeChecks, written, outWritten}
 use Rattle.repair.specs.LiveNodes.{liveChecks, liveListed, outListed}
 use Rattle.repair.specs.Step.{stepChecks, stepped, nodesStepped}
 use Rattle.repair.specs.Repairs.{planIn}
 use Rattle.repair.proofs.StartLaws.{nodes-0}
 use Rattle.repair.proofs.RepairsLaws.{plan-made, run-made}
+use Rattle.repair.proofs.RefusalsProved.{thirteen-claim, not-thirteen-claim}
+use Rattle.repair.proofs.ReadsProved.{not-reached-claim}
 use Rattle.listing.specs.Text.{decimal, field, firstLine, stepLine, lastLine, refusalLine}
 use Rattle.listing.specs.Listing.{answerOf, listingIn, listingOf}
-use Rattle.examples.specs.Examples.{Row, Encodes, Interleaves, InterleaveGives, Plans, Starts, BoxGives, BoxReads, BoxHolds, BoxLacks, BoxSteps, BoxWrites, BoxNames, Converts, ConvertGives, Lists, allBut, HasPlan, Holds, Every, table, Examples}
+use Rattle.examples.specs.Examples.{Row, Encodes, Interleaves, InterleaveGives, Plans, Starts, BoxGives, BoxReads, BoxHolds, BoxLacks, BoxSteps, BoxWrites, BoxNames, Converts, ConvertGives, Lists, Stands, TurnedAway, ServedAnyway, sessionBy, allBut, HasPlan, Holds, Every, table, Examples}
 
 -- ---- a plan
 
 -- what is computed of a session and of a row's steps, rounds and nodes left; L has no part in it
-abbrev HasFigures : Session → List ℕ → ℕ → List ℕ → Type 0
-HasFigures s steps rounds left =
+abbrev HasFigures : Session → List ℕ → ℕ → List ℕ → List ℕ → Type 0
+HasFigures s steps rounds left reads =
+    let next = sessionBy (s .family) (s .k) (s .len) (allBut left s) (length steps / 4) reads in
     (stepBytes (planIn s) ≡ steps)
     × (lastRound (stepsIn steps (length steps / 4)) ≡ rounds)
-    × (marksAfter (s .live) (stepsIn steps (length steps / 4)) ≡ allBut left s .live)
-    × (nodesLeft (allBut left s .live) (nodeCountOf s) ≡ length left)
+    × (marksAfter (s .live) (stepsIn steps (length steps / 4)) ≡ next .live)
+    × (nodesLeft (next .live) (nodeCountOf s) ≡ length left)
+    × (s .steps + length steps / 4 ≡ next .steps)
+    × (countAll (s .reads) (sourcesOf (stepsIn steps (length steps / 4))) ≡ next .reads)
 
 -- plan and run give what is computed
-has-plan : (s : Session) (steps : List ℕ) (rounds : ℕ) (left : List ℕ) → noStart s ≡ false → HasFigures s steps rounds left → HasPlan s steps rounds left
-has-plan s steps rounds left start (bytes-are, last-is, marks-are, number-is) =
+has-plan : (s : Session) (steps : List ℕ) (rounds : ℕ) (left reads : List ℕ) → unsound s ≡ false → HasFigures s steps rounds left reads → HasPlan s steps rounds left reads
+has-plan s steps rounds left reads start (bytes-are, last-is, marks-are, number-is, steps-are, reads-are) =
     record {
       plan-gives = λ out h. sym (plan-made s out start (omega (arith, size-is)) .answer-is) ∙ rw (plan-is, count-is, last-is, marks-are, number-is);
       plan-writes = λ out h. sym (plan-made s out start (omega (arith, size-is)) .buffer-is) ∙ rw (bytes-are, size-is);
-      run-gives = λ nodes h. sym (run-made s nodes (nodes-0 s (length nodes) start h) .answer-is) ∙ rw (plan-is, count-is, last-is, marks-are, number-is);
+      run-gives = λ nodes h. sym (run-made s nodes (nodes-0 s (length nodes) start h) .answer-is) ∙ rw (plan-is, count-is, last-is, marks-are, number-is, steps-are, reads-are);
       run-leaves = λ nodes h. sym (run-made s nodes (nodes-0 s (length nodes) start h) .buffer-is) ∙ rw plan-is;
     }
   where
@@ -107,8 +113,8 @@ Computed (Interleaves family k L object other) =
     (firstMet (interleaveChecks family k L (length object) (length object)) ≡ 0) × (interleaved k L object ≡ other)
     × (firstMet (interleaveChecks family k L (length other) (length object)) ≡ 0) × (deinterleaved k L other ≡ object)
 Computed (InterleaveGives family k L size room number) = (firstMet (interleaveChecks family k L size room) ≡ number) × (eqb number 0 ≡ false)
-Computed (Plans family k list steps rounds left) =
-    (firstMet (startChecks family k 1 list) ≡ 0) × (noStart (sessionOf family k 1 list) ≡ false) × HasFigures (sessionOf family k 1 list) steps rounds left
+Computed (Plans family k list steps rounds left reads) =
+    (firstMet (startChecks family k 1 list) ≡ 0) × (unsound (sessionOf family k 1 list) ≡ false) × HasFigures (sessionOf family k 1 list) steps rounds left reads
 Computed (Starts family k L list number) = Holds (Starts family k L list number)
 Computed (BoxGives bytes number) = Holds (BoxGives bytes number)
 Computed (BoxReads box s after) =
@@ -131,19 +137,26 @@ Computed (Converts theirs ours) =
     × (converted ours out ≡ record { refusal = 0; length = length ours }) × (outConverted toGraded ours out ≡ theirs ++ drop (length theirs) out)
 Computed (ConvertGives bytes room number) = (firstMet (conversionChecks bytes room) ≡ number) × (eqb number 0 ≡ false)
 Computed (Lists box text) = Holds (Lists box text)
+Computed (Stands family k L list steps reads) = unsound (sessionBy family k L list steps reads) ≡ false
+Computed (TurnedAway family k L list steps reads) = unsound (sessionBy family k L list steps reads) ≡ true
+-- node a has more reads than there are steps
+Computed (ServedAnyway family k L list steps reads j a b more) =
+    let s = sessionBy family k L list steps reads in
+    (ltb a 256 ≡ true) × (ltb steps (countOf (s .reads) a) ≡ true)
+    × ((byte : ℕ → ℕ) → stepped s (listFrom byte 0 (nodeCountOf s * L)) j a b ≡ record { refusal = 0; session = sessionBy family k L (list ++ (j ∷ [])) (suc steps) more })
 
 -- and what follows
 holds : (row : Row) → Computed row → Holds row
-unfolding encodeAnswer encoded interleaveAnswer outMoved started startChecks noStart
+unfolding encodeAnswer encoded interleaveAnswer outMoved started startChecks unsound miscounted
 holds (Encodes family k L object nodes) (a, is) = λ buffer e. (rw (e, a), rw (e, a, is))
 holds (Interleaves family k L object other) (a, is, b, back) = λ out e. (rw (e, a), rw (e, a, is), rw (e, b), rw (e, b, back))
 holds (InterleaveGives family k L size room number) (is, some) = λ bytes out e f.
     let given : firstMet (interleaveChecks family k L (length bytes) (length out)) ≡ number = rw (e, f) is in
     let met : firstMet (interleaveChecks family k L (length bytes) (length out)) ≡ 0 → ⊥ = λ z. eqb-false number 0 some (sym given ∙ z) in
     (given, kept family k L bytes out interleaved met, kept family k L bytes out deinterleaved met)
-holds (Plans family k list steps rounds left) (a, start, figures) = λ L h g.
+holds (Plans family k list steps rounds left reads) (a, start, figures) = λ L h g.
     let same = same-checks family k L h g in
-    (rw (same, a), has-plan (sessionOf family k L list) steps rounds left (rw same start) figures)
+    (rw (same, a), has-plan (sessionOf family k L list) steps rounds left reads (rw same start) figures)
 holds (Starts family k L list number) c = c
 holds (BoxGives bytes number) c = c
 holds (BoxReads box s after) (a, c) = (a, each _ _ c)
@@ -159,6 +172,10 @@ holds (ConvertGives bytes room number) (is, some) = λ out e.
     let r = converted-refused bytes out fromGraded met in
     (r .0 ∙ ap (λ (m : ℕ). record { refusal = m; length = 0 }) given, r .1, converted-refused bytes out toGraded met .1)
 holds (Lists box text) c = c
+holds (Stands family k L list steps reads) c = not-thirteen-claim (sessionBy family k L list steps reads) c
+holds (TurnedAway family k L list steps reads) c = thirteen-claim (sessionBy family k L list steps reads) c
+holds (ServedAnyway family k L list steps reads j a b more) (low, many, c) =
+    (not-reached-claim (sessionBy family k L list steps reads) a (ltb-true a 256 low) (ltb-true steps _ many), each _ _ c)
 
 all-hold : (rows : List Row) → Every Computed rows → Every Holds rows
 all-hold [] c = tt
@@ -172,22 +189,22 @@ _&_ : {A B : Type 0} → A → B → A × B
 a & b = (a, b)
 
 computed : Every Computed table
-unfolding started refusalLine encodeChecks parameterChecks firstMet nodesBuffer joined nodeBlock columnOf nodeCount xorBytes zipWith startChecks checkedBox boxChecks someOutside rises setLive noStart liveOutside planOf roundsFrom isRepaired smallerNode largerNode firstFrom areRelated pairAt stepBytes lastRound getLastD nodesLeft thoseFrom someMissing stepsIn placeIn listFrom readBox nodesRead readChecks withBodies withBlock blockOf bodyChecks bodyOf writeChecks nodesChecks written outWritten boxOf flatMap liveChecks liveListed outListed stepChecks stepped nodesStepped listingOf answerOf listingIn firstLine stepLine lastLine field decimal converted outConverted conversionChecks renumbered newNames newBody nodeOf gradedTable below interleaveChecks interleaved deinterleaved
+unfolding started refusalLine encodeChecks parameterChecks firstMet nodesBuffer joined nodeBlock columnOf nodeCount xorBytes zipWith startChecks checkedBox boxChecks someOutside rises setLive unsound miscounted passesOutside sumOf countAll sourcesOf planOf roundsFrom isRepaired smallerNode largerNode firstFrom areRelated pairAt stepBytes lastRound getLastD nodesLeft thoseFrom someMissing stepsIn placeIn listFrom readBox nodesRead readChecks withBodies withBlock blockOf bodyChecks bodyOf writeChecks nodesChecks written outWritten boxOf flatMap liveChecks liveListed outListed stepChecks stepped nodesStepped listingOf answerOf listingIn firstLine stepLine lastLine field decimal converted outConverted conversionChecks renumbered newNames newBody nodeOf gradedTable below interleaveChecks interleaved deinterleaved
 computed =
     (refl, refl)
     & (refl, λ byte. (refl, refl))
-    & (refl, refl, (refl, refl, refl, refl))
-    & (refl, refl, (refl, refl, refl, refl))
-    & (refl, refl, (refl, refl, refl, refl))
-    & (refl, refl, (refl, refl, refl, refl))
-    & (refl, refl, (refl, refl, refl, refl))
-    & (refl, refl, (refl, refl, refl, refl))
-    & (refl, refl, (refl, refl, refl, refl))
+    & (refl, refl, (refl, refl, refl, refl, refl, refl))
+    & (refl, refl, (refl, refl, refl, refl, refl, refl))
+    & (refl, refl, (refl, refl, refl, refl, refl, refl))
+    & (refl, refl, (refl, refl, refl, refl, refl, refl))
+    & (refl, refl, (refl, refl, refl, refl, refl, refl))
+    & (refl, refl, (refl, refl, refl, refl, refl, refl))
+    & (refl, refl, (refl, refl, refl, refl, refl, refl))
     & (λ byte. (refl, refl))
     & (λ byte. (refl, refl))
     & (λ byte. (refl, refl))
-    & (refl, refl, (refl, refl, refl, refl))
-    & (refl, refl, (refl, refl, refl, refl))
+    & (refl, refl, (refl, refl, refl, refl, refl, refl))
+    & (refl, refl, (refl, refl, refl, refl, refl, refl))
     & (refl, refl, refl)
     & (refl, refl)
     & (λ byte out l. (rw l, rw l))
@@ -218,6 +235,8 @@ computed =
     & (refl, refl)
     & refl & refl & refl & refl & refl & refl & refl & refl & refl & refl
     & refl & refl & refl & refl & refl & refl & refl
+    & refl & refl & refl & refl & refl & refl & refl & refl & refl & refl & refl
+    & (refl, refl, λ byte. refl)
     & refl & refl & refl
     & tt
 

@@ -1,13 +1,13 @@
--- The lettered examples of document 01, the box that it shows, document 000's examples 2.1 and 3.1, and interleaved objects, rows of one
--- table under one statement.
+-- The lettered examples of document 01, the box that it shows, document 000's examples 2.1 and 3.1, interleaved objects, and sessions by
+-- their counts, rows of one table under one statement.
 use mathlib.Core.Path.{_≡_}
 use mathlib.Core.Bool.{not}
 use mathlib.Core.List.{List, [], _∷_, _++_}
-use Prim.Native.Nat.{ℕ, _-_, _*_, _/_, _≤_}
+use Prim.Native.Nat.{ℕ, suc, _-_, _*_, _/_, _≤_}
 use Prim.Native.String.{String}
-use lib.ListN.{length, getD, drop}
+use lib.ListN.{length, getD, drop, replicate}
 use Rattle.base.specs.Ranges.{thoseFrom}
-use Rattle.lists.specs.Lists.{isIn}
+use Rattle.lists.specs.Lists.{isIn, noneLive, setLive}
 use Rattle.checks.specs.Checks.{firstMet}
 use Rattle.checks.specs.Parameters.{mostL}
 use Rattle.encoding.specs.Encode.{encodeAnswer, encoded}
@@ -21,6 +21,8 @@ use Rattle.repair.specs.Boxed.{checkedBox, readBox, nodesRead, written, outWrit
 use Rattle.repair.specs.LiveNodes.{liveListed, outListed}
 use Rattle.repair.specs.Step.{stepped, nodesStepped}
 use Rattle.repair.specs.Repairs.{planned, outPlanned, ran, nodesRan}
+use Rattle.repair.specs.Refusals.{Thirteen, NotThirteen}
+use Rattle.repair.specs.Reads.{NotReached}
 use Rattle.listing.specs.Text.{ascii}
 use Rattle.listing.specs.Listing.{listingOf}
 
@@ -34,8 +36,9 @@ pub data Row : Type 0 where
   Interleaves : ℕ → ℕ → ℕ → List ℕ → List ℕ → Row
   -- family, k, L and the lengths of two buffers; the number that interleaving from the one to the other gives, and its inverse
   InterleaveGives : ℕ → ℕ → ℕ → ℕ → ℕ → ℕ → Row
-  -- family, k and the live nodes; at every L, the plan's steps, four numbers each, its rounds, and the nodes left
-  Plans : ℕ → ℕ → List ℕ → List ℕ → ℕ → List ℕ → Row
+  -- family, k and the live nodes; at every L, the plan's steps, four numbers each, its rounds, the nodes left, and how often a run reads
+  -- each number, from 0
+  Plans : ℕ → ℕ → List ℕ → List ℕ → ℕ → List ℕ → List ℕ → Row
   -- family, k, L and a node list; the number that the start gives
   Starts : ℕ → ℕ → ℕ → List ℕ → ℕ → Row
   -- bytes, and the number that checking them as a box gives
@@ -58,21 +61,33 @@ pub data Row : Type 0 where
   ConvertGives : List ℕ → ℕ → ℕ → Row
   -- a box, and what the lister prints of it
   Lists : List ℕ → String → Row
+  -- family, k, L, the live nodes, the steps and the reads of each number, from 0: no operation turns that session away with 13
+  Stands : ℕ → ℕ → ℕ → List ℕ → ℕ → List ℕ → Row
+  -- every operation turns it away with 13
+  TurnedAway : ℕ → ℕ → ℕ → List ℕ → ℕ → List ℕ → Row
+  -- no start leads to it, and yet a step is served: the node and two others, and the reads then
+  ServedAnyway : ℕ → ℕ → ℕ → List ℕ → ℕ → List ℕ → ℕ → ℕ → ℕ → List ℕ → Row
 
--- the session with every node live but those of a list
-abbrev pub allBut : List ℕ → Session → Session
-allBut list s = sessionOf (s .family) (s .k) (s .len) (thoseFrom (λ j. not (isIn list j)) 1 (nodeCountOf s))
+-- a session with the nodes of a list live, by its steps and the reads of each number from 0, which are 0 beyond those given
+abbrev pub sessionBy : ℕ → ℕ → ℕ → List ℕ → ℕ → List ℕ → Session
+sessionBy family k L list steps reads =
+    record { family = family; k = k; len = L; steps = steps; live = setLive noneLive list; reads = reads ++ replicate (256 - length reads) 0 }
 
--- the plan of a session has these steps and rounds, and leaves these nodes
-pub record HasPlan (s : Session) (steps : List ℕ) (rounds : ℕ) (left : List ℕ) : Type 0 where
+-- every node but those of a list
+abbrev pub allBut : List ℕ → Session → List ℕ
+allBut list s = thoseFrom (λ j. not (isIn list j)) 1 (nodeCountOf s)
+
+-- the plan of a session has these steps and rounds, leaves these nodes, and reads so often
+pub record HasPlan (s : Session) (steps : List ℕ) (rounds : ℕ) (left reads : List ℕ) : Type 0 where
   -- plan gives its counts; the session stays
   pub plan-gives : (out : List ℕ) → length steps ≤ length out
       → planned s out ≡ record { refusal = 0; steps = length steps / 4; rounds = rounds; left = length left; session = s }
   -- the destination gets its steps and keeps what is beyond them
   pub plan-writes : (out : List ℕ) → length steps ≤ length out → outPlanned s out ≡ steps ++ drop (length steps) out
-  -- run gives the same counts; in the next session every node is live but those left
+  -- run gives the same counts; in the next session every node is live but those left, and steps and reads are counted
   pub run-gives : (nodes : List ℕ) → length nodes ≡ nodeCountOf s * s .len
-      → ran s nodes ≡ record { refusal = 0; steps = length steps / 4; rounds = rounds; left = length left; session = allBut left s }
+      → ran s nodes
+      ≡ record { refusal = 0; steps = length steps / 4; rounds = rounds; left = length left; session = sessionBy (s .family) (s .k) (s .len) (allBut left s) (length steps / 4) reads }
   -- the nodes buffer is as these very steps leave it, made one after the other
   pub run-leaves : (nodes : List ℕ) → length nodes ≡ nodeCountOf s * s .len
       → nodesRan s nodes ≡ nodesMade (s .len) nodes (stepsIn steps (length steps / 4))
@@ -94,9 +109,9 @@ Holds (Interleaves family k L object other) =
 Holds (InterleaveGives family k L size room number) =
     (bytes out : List ℕ) → length bytes ≡ size → length out ≡ room
     → (interleaveAnswer family k L bytes out ≡ number) × (outMoved interleaved family k L bytes out ≡ out) × (outMoved deinterleaved family k L bytes out ≡ out)
-Holds (Plans family k list steps rounds left) =
+Holds (Plans family k list steps rounds left reads) =
     (L : ℕ) → 1 ≤ L → L ≤ mostL
-    → (started family k L list ≡ acceptedStart (sessionOf family k L list)) × HasPlan (sessionOf family k L list) steps rounds left
+    → (started family k L list ≡ acceptedStart (sessionOf family k L list)) × HasPlan (sessionOf family k L list) steps rounds left reads
 Holds (Starts family k L list number) = started family k L list .refusal ≡ number
 Holds (BoxGives bytes number) = checkedBox bytes .refusal ≡ number
 Holds (BoxReads box s after) =
@@ -124,6 +139,14 @@ Holds (ConvertGives bytes room number) =
     (out : List ℕ) → length out ≡ room
     → (converted bytes out ≡ record { refusal = number; length = 0 }) × (outConverted fromGraded bytes out ≡ out) × (outConverted toGraded bytes out ≡ out)
 Holds (Lists box text) = listingOf box ≡ ascii text
+Holds (Stands family k L list steps reads) = NotThirteen (sessionBy family k L list steps reads)
+Holds (TurnedAway family k L list steps reads) = Thirteen (sessionBy family k L list steps reads)
+-- the node is live then, and one step more is counted
+Holds (ServedAnyway family k L list steps reads j a b more) =
+    let s = sessionBy family k L list steps reads in
+    NotReached s
+    × ((nodes : List ℕ) → length nodes ≡ nodeCountOf s * L
+    → stepped s nodes j a b ≡ record { refusal = 0; session = sessionBy family k L (list ++ (j ∷ [])) (suc steps) more })
 
 -- this is so of every row of a table
 abbrev pub Every : (Row → Type 0) → List Row → Type 0
@@ -148,28 +171,28 @@ table =
     -- b. The box above: its session; its bodies read into a nodes buffer, places of missing nodes keeping their bytes
     ∷ BoxReads sampleBox (sessionOf 1 3 1 (4 ∷ 5 ∷ 7 ∷ [])) (λ was. was 1 ∷ was 2 ∷ was 3 ∷ 4 ∷ 5 ∷ was 6 ∷ 7 ∷ [])
     -- b. The plan above, at every L
-    ∷ Plans 1 3 (4 ∷ 5 ∷ 7 ∷ []) (1 ∷ 1 ∷ 4 ∷ 5 ∷ 1 ∷ 2 ∷ 5 ∷ 7 ∷ 1 ∷ 3 ∷ 4 ∷ 7 ∷ 2 ∷ 6 ∷ 1 ∷ 7 ∷ []) 2 []
+    ∷ Plans 1 3 (4 ∷ 5 ∷ 7 ∷ []) (1 ∷ 1 ∷ 4 ∷ 5 ∷ 1 ∷ 2 ∷ 5 ∷ 7 ∷ 1 ∷ 3 ∷ 4 ∷ 7 ∷ 2 ∷ 6 ∷ 1 ∷ 7 ∷ []) 2 [] (0 ∷ 1 ∷ 0 ∷ 0 ∷ 2 ∷ 2 ∷ 0 ∷ 3 ∷ [])
     -- c. Simplex 2, live 1: steps 0, rounds 0, left 2
-    ∷ Plans 1 2 (1 ∷ []) [] 0 (2 ∷ 3 ∷ [])
+    ∷ Plans 1 2 (1 ∷ []) [] 0 (2 ∷ 3 ∷ []) []
     -- d. Simplex 3, live 1, 2, 4: steps 4, rounds 2, left 0
-    ∷ Plans 1 3 (1 ∷ 2 ∷ 4 ∷ []) (1 ∷ 3 ∷ 1 ∷ 2 ∷ 1 ∷ 5 ∷ 1 ∷ 4 ∷ 1 ∷ 6 ∷ 2 ∷ 4 ∷ 2 ∷ 7 ∷ 1 ∷ 6 ∷ []) 2 []
+    ∷ Plans 1 3 (1 ∷ 2 ∷ 4 ∷ []) (1 ∷ 3 ∷ 1 ∷ 2 ∷ 1 ∷ 5 ∷ 1 ∷ 4 ∷ 1 ∷ 6 ∷ 2 ∷ 4 ∷ 2 ∷ 7 ∷ 1 ∷ 6 ∷ []) 2 [] (0 ∷ 3 ∷ 2 ∷ 0 ∷ 2 ∷ 0 ∷ 1 ∷ [])
     -- e. Weight-two 3, live 4, 6: step 1 5 4 6, left 3 (nodes 1, 2, 3)
-    ∷ Plans 2 3 (4 ∷ 6 ∷ []) (1 ∷ 5 ∷ 4 ∷ 6 ∷ []) 1 (1 ∷ 2 ∷ 3 ∷ [])
+    ∷ Plans 2 3 (4 ∷ 6 ∷ []) (1 ∷ 5 ∷ 4 ∷ 6 ∷ []) 1 (1 ∷ 2 ∷ 3 ∷ []) (0 ∷ 0 ∷ 0 ∷ 0 ∷ 1 ∷ 0 ∷ 1 ∷ [])
     -- f. Weight-two 3, live 1, 4, 6: steps 3, rounds 2, left 0; node 3 comes from 1 and 5
-    ∷ Plans 2 3 (1 ∷ 4 ∷ 6 ∷ []) (1 ∷ 2 ∷ 1 ∷ 4 ∷ 1 ∷ 5 ∷ 4 ∷ 6 ∷ 2 ∷ 3 ∷ 1 ∷ 5 ∷ []) 2 []
+    ∷ Plans 2 3 (1 ∷ 4 ∷ 6 ∷ []) (1 ∷ 2 ∷ 1 ∷ 4 ∷ 1 ∷ 5 ∷ 4 ∷ 6 ∷ 2 ∷ 3 ∷ 1 ∷ 5 ∷ []) 2 [] (0 ∷ 2 ∷ 0 ∷ 0 ∷ 2 ∷ 1 ∷ 1 ∷ [])
     -- g. Tetrahedron, live 1, 2, 3, 4: steps 10, rounds 2, left 0
     ∷ Plans 3 4 (1 ∷ 2 ∷ 3 ∷ 4 ∷ [])
     (1 ∷ 5 ∷ 1 ∷ 3 ∷ 1 ∷ 6 ∷ 1 ∷ 2 ∷ 1 ∷ 7 ∷ 2 ∷ 3 ∷ 1 ∷ 9 ∷ 2 ∷ 4 ∷ 1 ∷ 10 ∷ 3 ∷ 4 ∷ 1 ∷ 12 ∷ 1 ∷ 4
-    ∷ 2 ∷ 8 ∷ 1 ∷ 7 ∷ 2 ∷ 11 ∷ 2 ∷ 10 ∷ 2 ∷ 13 ∷ 1 ∷ 9 ∷ 2 ∷ 14 ∷ 1 ∷ 10 ∷ []) 2 []
+    ∷ 2 ∷ 8 ∷ 1 ∷ 7 ∷ 2 ∷ 11 ∷ 2 ∷ 10 ∷ 2 ∷ 13 ∷ 1 ∷ 9 ∷ 2 ∷ 14 ∷ 1 ∷ 10 ∷ []) 2 [] (0 ∷ 6 ∷ 4 ∷ 3 ∷ 3 ∷ 0 ∷ 0 ∷ 1 ∷ 0 ∷ 1 ∷ 2 ∷ [])
     -- h. Tetrahedron, live 4, 8: steps 0, left 12
-    ∷ Plans 3 4 (4 ∷ 8 ∷ []) [] 0 (1 ∷ 2 ∷ 3 ∷ 5 ∷ 6 ∷ 7 ∷ 9 ∷ 10 ∷ 11 ∷ 12 ∷ 13 ∷ 14 ∷ [])
+    ∷ Plans 3 4 (4 ∷ 8 ∷ []) [] 0 (1 ∷ 2 ∷ 3 ∷ 5 ∷ 6 ∷ 7 ∷ 9 ∷ 10 ∷ 11 ∷ 12 ∷ 13 ∷ 14 ∷ []) []
     -- i. In b's session: step 6 from 1, 7 gives 12; 4 from 1, 5 gives 11; 1 from 4, 7 gives 10
     ∷ BoxSteps sampleBox 6 1 7 12
     ∷ BoxSteps sampleBox 4 1 5 11
     ∷ BoxSteps sampleBox 1 4 7 10
     -- j. Simplex 3, none live: steps 0, rounds 0, left 7; all live: left 0, rounds 0
-    ∷ Plans 1 3 [] [] 0 (1 ∷ 2 ∷ 3 ∷ 4 ∷ 5 ∷ 6 ∷ 7 ∷ [])
-    ∷ Plans 1 3 (1 ∷ 2 ∷ 3 ∷ 4 ∷ 5 ∷ 6 ∷ 7 ∷ []) [] 0 []
+    ∷ Plans 1 3 [] [] 0 (1 ∷ 2 ∷ 3 ∷ 4 ∷ 5 ∷ 6 ∷ 7 ∷ []) []
+    ∷ Plans 1 3 (1 ∷ 2 ∷ 3 ∷ 4 ∷ 5 ∷ 6 ∷ 7 ∷ []) [] 0 [] []
     -- From the box above, the body of node 5 is the part at byte 12; that of node 6, which is missing, gives 12 and an empty part
     ∷ BoxHolds sampleBox 5 12 (5 ∷ [])
     ∷ BoxLacks sampleBox 6 12
@@ -234,6 +257,23 @@ table =
     ∷ BoxGives (1 ∷ 3 ∷ 1 ∷ 0 ∷ 8 ∷ 0 ∷ 0 ∷ 0 ∷ 4 ∷ 5 ∷ 7 ∷ 4 ∷ 5 ∷ 7 ∷ []) 9
     ∷ BoxGives (1 ∷ 3 ∷ 1 ∷ 0 ∷ 7 ∷ 0 ∷ 0 ∷ 0 ∷ 4 ∷ 5 ∷ 7 ∷ 4 ∷ 5 ∷ 7 ∷ []) 7
     ∷ BoxGives (1 ∷ 2 ∷ 1 ∷ 0 ∷ 4 ∷ 0 ∷ 0 ∷ 0 ∷ 1 ∷ 2 ∷ 3 ∷ 3 ∷ 9 ∷ 9 ∷ 9 ∷ 9 ∷ []) 9
+    -- Simplex 2, nodes 1 and 2 live, one step made (document 02, K8): its reads are two, of nodes 1 and 2, or twice of one, which may
+    -- be missing. One read or three give 13, and so does one of two for 0 or for 4, which is above n
+    ∷ Stands 1 2 1 (1 ∷ 2 ∷ []) 1 (0 ∷ 1 ∷ 1 ∷ [])
+    ∷ Stands 1 2 1 (1 ∷ 2 ∷ []) 1 (0 ∷ 0 ∷ 0 ∷ 2 ∷ [])
+    ∷ TurnedAway 1 2 1 (1 ∷ 2 ∷ []) 1 (0 ∷ 1 ∷ [])
+    ∷ TurnedAway 1 2 1 (1 ∷ 2 ∷ []) 1 (0 ∷ 2 ∷ 1 ∷ [])
+    ∷ TurnedAway 1 2 1 (1 ∷ 2 ∷ []) 1 (1 ∷ 1 ∷ [])
+    ∷ TurnedAway 1 2 1 (1 ∷ 2 ∷ []) 1 (0 ∷ 1 ∷ 0 ∷ 0 ∷ 1 ∷ [])
+    -- Steps and missing nodes may be 3, and not 4; where all are live there may be three steps. 2^63 steps are too many, though twice
+    -- as many would be 0 in 64 bits, and so are 65,535 reads and one more for no step, though their sum would be 0 in 16
+    ∷ Stands 1 2 1 (1 ∷ 2 ∷ []) 2 (0 ∷ 2 ∷ 2 ∷ [])
+    ∷ TurnedAway 1 2 1 (1 ∷ 2 ∷ []) 3 (0 ∷ 3 ∷ 3 ∷ [])
+    ∷ Stands 1 2 1 (1 ∷ 2 ∷ 3 ∷ []) 3 (0 ∷ 3 ∷ 3 ∷ [])
+    ∷ TurnedAway 1 2 1 (1 ∷ 2 ∷ 3 ∷ []) 9223372036854775808 []
+    ∷ TurnedAway 1 2 1 (1 ∷ 2 ∷ 3 ∷ []) 0 (0 ∷ 65535 ∷ 1 ∷ [])
+    -- Two reads of node 1 by one step: no start leads there, and the step to node 3 from 1 and 2 is served
+    ∷ ServedAnyway 1 2 1 (1 ∷ 2 ∷ []) 1 (0 ∷ 2 ∷ []) 3 1 2 (0 ∷ 3 ∷ 1 ∷ [])
     -- Example h as a box, an empty input, and a box of no node with L 259
     ∷ Lists (3 ∷ 4 ∷ 1 ∷ 0 ∷ 2 ∷ 0 ∷ 0 ∷ 0 ∷ 4 ∷ 8 ∷ 9 ∷ 6 ∷ []) "family 3 k 4 length 1 live 2\nsteps 0 rounds 0 left 12\n"
     ∷ Lists [] "refused 7\n"

@@ -16,7 +16,7 @@ use Rattle.planning.proofs.CarryLaws.{steps-back}
 use Rattle.repair.specs.declared.Session.{Session}
 use Rattle.repair.specs.declared.Repairs.{Repairs}
 use Rattle.repair.specs.declared.Started.{Started}
-use Rattle.repair.specs.Session.{noStart}
+use Rattle.repair.specs.Session.{unsound}
 use Rattle.repair.specs.Boxed.{checkedBox}
 use Rattle.repair.specs.Repairs.{planIn, repairsOf, planned, outPlanned}
 use Rattle.repair.proofs.StartLaws.{known}
@@ -71,11 +71,11 @@ module _ (input : List ℕ) where
       go (no l) (no n) = refused input text (omega arith) n ∙ sym (refused input [] (omega arith) n)
 
   -- some start gives the session of an accepted box
-  pub box-known : checkedBox input .refusal ≡ 0 → noStart (checkedBox input .session) ≡ false
+  pub box-known : checkedBox input .refusal ≡ 0 → unsound (checkedBox input .session) ≡ false
   box-known passes =
       let from = box-start-claim input passes .start in
       let accepted = ap (λ (r : Started). r .refusal) (sym from) ∙ passes in
-      rw from (fits-claim .start (familyIn input) (kIn input) (blockLengthIn input) (namesIn input) (replicate (nodeCountIn input * blockLengthIn input) 0) accepted (length-replicate (nodeCountIn input * blockLengthIn input) 0) .starts)
+      rw from (fits-claim .start (familyIn input) (kIn input) (blockLengthIn input) (namesIn input) (replicate (nodeCountIn input * blockLengthIn input) 0) accepted (length-replicate (nodeCountIn input * blockLengthIn input) 0) .sound)
 
 -- ---- the plan of an accepted box's session
 
@@ -85,16 +85,16 @@ pub record Drawn (s : Session) (bytes : List ℕ) (made : Repairs) : Type 0 wher
   pub steps-are : stepsIn bytes (made .steps) ≡ planIn s
   pub short : made .steps ≤ 255
 
-module _ (s : Session) (starts : noStart s ≡ false) (size : length (s .live) ≡ 256) where
+module _ (s : Session) (sound : unsound s ≡ false) (size : length (s .live) ≡ 256) where
   plan-short : length (planIn s) ≤ 255
   plan-short =
-      let range = known s starts .range .blocks in
+      let range = known s sound .range .blocks in
       omega (arith, plan-few (familyOf (s .family)) (s .k) range (s .live) size, few (familyOf (s .family)) (s .k) range)
 
   -- room for 255 steps is enough, so that the plan is not refused
   pub drawn : (before : List ℕ) {bytes : List ℕ} {made : Repairs} → length before ≡ 1020 → made ≡ planned s before → bytes ≡ outPlanned s before → Drawn s bytes made
   drawn before room e f =
-      let p = plan-made s before starts (omega (arith, plan-short)) in
+      let p = plan-made s before sound (omega (arith, plan-short)) in
       let d = e ∙ sym (p .answer-is) in
       record {
         answer-is = d;

@@ -14,7 +14,7 @@ ghost use mathlib.Core.Bool.{false};
 ghost use mathlib.Core.List.{[], _++_, flatMap};
 ghost use Prim.Native.Nat.{_+_, _≤_};
 ghost use lib.ListN.{length, drop, replicate};
-ghost use Rattle.repair.specs.Session.{noStart};
+ghost use Rattle.repair.specs.Session.{unsound};
 ghost use Rattle.repair.specs.Repairs.{planIn, repairsOf};
 ghost use Rattle.listing.specs.Inner.{Put};
 ghost use Rattle.listing.specs.Text.{stepLine, lastLine, tooLongLine};
@@ -60,7 +60,7 @@ pub fn turned_away(input: &[u8], out: &mut [u8]) -> usize
 // The plan of an accepted box's session, a line for each step and the last line, from place `at` on; gives the place after it.
 // There is room for 255 steps, 16 bytes each, and 81 bytes more.
 fn put_plan(session: Session, out: &mut [u8], at: usize) -> usize
-    requires { ⌜ noStart session ≡ false ⌝ }
+    requires { ⌜ unsound session ≡ false ⌝ }
     requires { ⌜ at + 4161 ≤ length (now out) ⌝ }
     ensures { λ r. ⌜ Put (now (out .entry)) at (flatMap stepLine (planIn session) ++ lastLine (repairsOf session session .steps) (repairsOf session session .rounds) (repairsOf session session .left)) (now (out .exit)) r ⌝ }
 {
@@ -72,7 +72,7 @@ fn put_plan(session: Session, out: &mut [u8], at: usize) -> usize
 
 // The listing of an accepted box's session, at the front of `out`; gives its length.
 fn put_listing(session: Session, out: &mut [u8]) -> usize
-    requires { ⌜ noStart session ≡ false ⌝ }
+    requires { ⌜ unsound session ≡ false ⌝ }
     requires { ⌜ 8192 ≤ length (now out) ⌝ }
     ensures { λ r. ⌜ Put (now (out .entry)) 0 (listingIn session) (now (out .exit)) r ⌝ }
 {

@@ -10,6 +10,8 @@ use lib.ListN.{length, take, drop, length-map}
 use lib.Seq.{take-append-seam}
 use Rattle.boxes.specs.Box.{namesIn}
 use Rattle.repair.specs.declared.Session.{Session}
+use Rattle.repair.specs.Session.{Arrays}
+use Rattle.repair.specs.Refusals.{NotThirteen}
 use Rattle.repair.specs.declared.Written.{Written}
 use Rattle.repair.specs.declared.ReadOut.{ReadOut}
 use Rattle.repair.specs.Boxed.{readBox, nodesRead, written, outWritten}
@@ -21,17 +23,19 @@ use Rattle.repair.specs.RepairClaims.{LiveAreOwn, OwnClaims}
 use Rattle.repair.specs.WholeWay.{OutWhereOpen, Way, startOf, nodesEncoded, boxAway, stateAt, WholeWay}
 use Rattle.repair.proofs.Proved.{write-read-claim}
 use Rattle.repair.proofs.LeftOverProved.{demand-3}
+use Rattle.repair.proofs.ReadsProved.{counted-claim}
+use Rattle.repair.proofs.RefusalsProved.{not-thirteen-claim}
 use Rattle.repair.proofs.RepairsProved.{own-claim}
 use Rattle.repair.proofs.WholeWayProved.{whole-way-claim}
 use Rattle.mogtriz.specs.declared.sessions.MarkedSession.{MarkedSession}
 use Rattle.mogtriz.specs.declared.sessions.WriteAnswer.{WriteAnswer}
 use Rattle.mogtriz.specs.declared.sessions.ReadOutAnswer.{ReadOutAnswer}
 use Rattle.mogtriz.specs.declared.repairs.RepairsAnswer.{RepairsAnswer}
-use Rattle.mogtriz.specs.Sessions.{byteOf, someAbove1, sessionForC, sessionOfC, readOutC}
+use Rattle.mogtriz.specs.Sessions.{markOf, someAbove1, sessionForC, sessionOfC, readOutC}
 use Rattle.mogtriz.specs.Repairs.{ranC}
-use Rattle.mogtriz.specs.Claims.{Demand3C, OwnC, OwnCClaim, boxAwayC, stateAtC, OnTheWayC, OutWhereOpenC, WholeWayCClaim}
+use Rattle.mogtriz.specs.Claims.{Demand3C, NotThirteenC, CountedCClaim, OwnC, OwnCClaim, boxAwayC, stateAtC, OnTheWayC, OutWhereOpenC, WholeWayCClaim}
 use Rattle.mogtriz.proofs.MarkLaws.{byte-at}
-use Rattle.mogtriz.proofs.Proved.{there-and-back, back-and-there, thirteen-c-claim, agree-claim}
+use Rattle.mogtriz.proofs.Proved.{of-low, there-and-back, back-and-there, thirteen-c-claim, agree-claim}
 use Rattle.mogtriz.proofs.AnswerLaws.{read-out-kept}
 use Rattle.mogtriz.proofs.CallLaws.{last-agrees, state-agrees, state-stays}
 
@@ -49,6 +53,32 @@ demand-3-c family k L list e calls M h =
       plans = λ out. rw (agrees calls, agree-claim (last calls) .plan out) (own .plans out);
     }
 
+-- a session that no operation turns away with 13, in C's form
+agree-not-13 : (s : Session) → NotThirteen s → NotThirteenC (sessionForC s)
+agree-not-13 s t =
+    let a = agree-claim s in
+    record {
+      step = λ nodes j x y. rw (a .step nodes j x y) (t .step nodes j x y);
+      plan = λ out. rw (a .plan out) (t .plan out);
+      run = λ nodes. rw (a .run nodes) (t .run nodes);
+      write = λ nodes list out. rw (a .write nodes list out) (t .write nodes list out);
+      live = λ out. rw (a .live out) (t .live out);
+      read-out = λ nodes object. rw (a .read-out nodes object) (t .read-out nodes object);
+    }
+
+pub counted-c-claim : CountedCClaim
+counted-c-claim family k L list e calls =
+    let own = counted-claim family k L list e calls in
+    let is = last-agrees family k L list calls in
+    let last = lastSession family k L list calls in
+    record {
+      steps = rw is (own .steps);
+      reads = rw is (own .reads);
+      sum = rw is (own .sum);
+      none = rw is (own .none);
+      not-13 = rw is (agree-not-13 last (not-thirteen-claim last (own .sound)));
+    }
+
 -- what is claimed of a session holds of its C form
 pub own-agrees : (object : List ℕ) (s : Session) (nodes : List ℕ) (moves : List Move) → OwnClaims object s nodes moves → OwnC object (sessionForC s) nodes moves
 unfolding readOut
@@ -61,7 +91,7 @@ own-agrees object s nodes moves o =
     }
 
 pub own-c-claim : OwnCClaim
-own-c-claim object s nodes marks size live moves = go (someAbove1 (s .live)) refl
+own-c-claim object s nodes marks counts size live moves = go (someAbove1 (s .live)) refl
   where
     go : (above : Bool) → someAbove1 (s .live) ≡ above → OwnC object s nodes moves
     go true e =
@@ -69,7 +99,7 @@ own-c-claim object s nodes marks size live moves = go (someAbove1 (s .live)) ref
         record { live = rw same-state live; out = λ result a. absurd (omega (arith, rw same-state at a, thirteen-c-claim s (inl e) .read-out nodes result)) }
     go false e =
         let is = back-and-there s e in
-        let n = sym (length-map (sessionOfC s .live) byteOf) ∙ ap (λ (t : MarkedSession). length (t .live)) is ∙ marks in
+        let n : Arrays (sessionOfC s) = rw (of-low s e) (record { marks = length-map (s .live) markOf ∙ marks; counts = counts }) in
         subst (λ (t : MarkedSession). OwnC object t nodes moves) is
         (own-agrees object (sessionOfC s) nodes moves (own-claim object (sessionOfC s) nodes n (size ∙ ap (λ (t : MarkedSession). t .k * t .len) (sym is)) live moves))
 

@@ -60,7 +60,7 @@ module _ (object bytes out nodes : List ℕ) (size : length object ≡ kIn bytes
     pub graded-way : (moves : List Move) → OwnC object (sessionForC (readBox box nodes .session)) (nodesRead box nodes) moves
     graded-way moves =
         own-agrees object (readBox box nodes .session) (nodesRead box nodes) moves
-        (own-claim object (readBox box nodes .session) (nodesRead box nodes) (fits-claim .read-fits box nodes g .marks) object-size (own-box-claim .read object box nodes bodies-own g) moves)
+        (own-claim object (readBox box nodes .session) (nodesRead box nodes) (fits-claim .read-fits box nodes g .arrays) object-size (own-box-claim .read object box nodes bodies-own g) moves)
 
 pub graded-way-c-claim : GradedWayCClaim
 graded-way-c-claim = graded-way

@@ -8,23 +8,24 @@ use Prim.Native.Nat.{ℕ}
 use native.Mathlib.Omega.{arith}
 use borrow.Author.Tests.{eqb-true, eqb-false, le-leb}
 use lib.Dec.{eqb}
-use lib.ListN.{length-map}
+use lib.ListN.{length-map, replicate}
 use Rattle.checks.specs.Checks.{firstMet}
 use Rattle.families.specs.Families.{familyOf, IsNode, nodeCount, nodeOf}
 use Rattle.checks.specs.Claims.{InRange}
 use Rattle.checks.proofs.Laws.{range-claim}
 use Rattle.boxes.specs.Box.{bodyChecks, bodyOf}
 use Rattle.checks.specs.Parameters.{parameterChecks}
-use Rattle.repair.specs.Session.{sessionWith, started, noStart}
+use Rattle.repair.specs.declared.Session.{Session}
+use Rattle.repair.specs.Session.{Arrays, started, unsound}
 use Rattle.repair.specs.Boxed.{readBox, nodesRead}
 use Rattle.repair.specs.Claims.{WrittenAgain}
-use Rattle.repair.proofs.Proved.{live-list-claim, read-write-claim}
-use Rattle.repair.proofs.RefusalsProved.{refusal-claim, thirteen-claim}
+use Rattle.repair.proofs.Proved.{sound-claim, live-list-claim, read-write-claim}
+use Rattle.repair.proofs.RefusalsProved.{refusal-claim, thirteen-claim, not-thirteen-claim}
 use Rattle.mogtriz.specs.declared.sessions.MarkedSession.{MarkedSession}
 use Rattle.mogtriz.specs.Sessions.{markOf, someAbove1, sessionForC, sessionOfC, startedC, writtenC, liveListedC, readOutC, partIn}
 use Rattle.mogtriz.specs.Exports.{nodeCountOr0, isNode, columnOr0, nodeOr0, relatedOr0}
 use Rattle.mogtriz.specs.Repairs.{steppedC, plannedC, ranC}
-use Rattle.mogtriz.specs.Claims.{ThereAndBackClaim, BackAndThereClaim, StartedMarksClaim, HandedBackClaim, RefusedStartClaim, TurnedAwayClaim, ThirteenC, ThirteenCClaim, listLeftC, LiveListCClaim, WrittenAgainC, ReadWriteCClaim, SameFieldsClaim, PartOf, PartClaim, AnswersClaim, AgreeClaim}
+use Rattle.mogtriz.specs.Claims.{ThereAndBackClaim, BackAndThereClaim, StartedMarksClaim, HandedBackClaim, RefusedStartClaim, TurnedAwayClaim, ThirteenC, ThirteenCClaim, NotThirteenCClaim, listLeftC, LiveListCClaim, WrittenAgainC, ReadWriteCClaim, SameFieldsClaim, PartOf, PartClaim, AnswersClaim, AgreeClaim}
 use Rattle.mogtriz.proofs.Laws.{count-accepted}
 use Rattle.mogtriz.proofs.MarkLaws.{marks-back, bytes-back, marks-low}
 use Rattle.mogtriz.proofs.AnswerLaws.{kept-session, step-low, run-low, step-done, run-done, handed-on, plan-kept, write-kept, live-kept, read-out-kept}
@@ -36,6 +37,12 @@ there-and-back s = rw (marks-low (s .live), marks-back (s .live))
 pub back-and-there : BackAndThereClaim
 unfolding sessionOfC
 back-and-there s h = rw (h, bytes-back (s .live) h)
+
+-- with no byte above 1 it is taken in field by field
+pub of-low : (s : MarkedSession) → someAbove1 (s .live) ≡ false
+    → sessionOfC s ≡ record { family = s .family; k = s .k; len = s .len; steps = s .steps; live = map markOf (s .live); reads = s .reads }
+unfolding sessionOfC
+of-low s h = rw h
 
 pub started-marks-claim : StartedMarksClaim
 started-marks-claim answer = marks-low (answer .session .live)
@@ -69,23 +76,31 @@ turned-away-claim s =
       read-out = λ nodes object h. let r = own .read-out (sessionOfC s) nodes object h in (rw (r .0), r .1);
     }
 
--- a session with a byte above 1 is taken in as one that no start gives
-no-start : (s : MarkedSession) → someAbove1 (s .live) ≡ true → noStart (sessionOfC s) ≡ true
-unfolding sessionOfC noStart parameterChecks firstMet
-no-start s h = rw h
+-- a session with a byte above 1 is taken in as one that cannot stand
+above-unsound : (s : MarkedSession) → someAbove1 (s .live) ≡ true → unsound (sessionOfC s) ≡ true
+unfolding sessionOfC unsound parameterChecks firstMet
+above-unsound s h = rw h
 
 pub thirteen-c-claim : ThirteenCClaim
 unfolding steppedC plannedC ranC writtenC liveListedC readOutC
 thirteen-c-claim s due = go due
   where
-    own : noStart (sessionOfC s) ≡ true → ThirteenC s
+    own : unsound (sessionOfC s) ≡ true → ThirteenC s
     own n =
         let t = thirteen-claim (sessionOfC s) n in
         record { step = t .step; plan = t .plan; run = t .run; write = t .write; live = t .live; read-out = t .read-out }
 
-    go : (someAbove1 (s .live) ≡ true) ⊎ (noStart (sessionOfC s) ≡ true) → ThirteenC s
-    go (inl above) = own (no-start s above)
+    go : (someAbove1 (s .live) ≡ true) ⊎ (unsound (sessionOfC s) ≡ true) → ThirteenC s
+    go (inl above) = own (above-unsound s above)
     go (inr n) = own n
+
+pub not-thirteen-c-claim : NotThirteenCClaim
+unfolding steppedC plannedC ranC writtenC liveListedC readOutC
+not-thirteen-c-claim s marks counts low holds =
+    let is = of-low s low in
+    let arrays : Arrays (sessionOfC s) = rw is (record { marks = length-map (s .live) markOf ∙ marks; counts = counts }) in
+    let t = not-thirteen-claim (sessionOfC s) (sound-claim (sessionOfC s) arrays .1 holds) in
+    record { step = t .step; plan = t .plan; run = t .run; write = t .write; live = t .live; read-out = t .read-out }
 
 -- one that is accepted has no byte above 1, so that it is C's again once it is handed out
 pub live-list-c-claim : LiveListCClaim
@@ -93,12 +108,13 @@ unfolding liveListedC sessionOfC
 live-list-c-claim s out size h = go (someAbove1 (s .live)) refl
   where
     go : (above : Bool) → someAbove1 (s .live) ≡ above
-        → startedC (started (s .family) (s .k) (s .len) (listLeftC s out)) ≡ record { refusal = 0; session = s }
+        → startedC (started (s .family) (s .k) (s .len) (listLeftC s out))
+        ≡ record { refusal = 0; session = record { family = s .family; k = s .k; len = s .len; steps = 0; live = s .live; reads = replicate 256 0 } }
     go true e = absurd (omega (arith, h, thirteen-c-claim s (inl e) .live out))
     go false e =
-        let is : sessionOfC s ≡ sessionWith (s .family) (s .k) (s .len) (map markOf (s .live)) = rw e in
-        let starts = live-list-claim (sessionWith (s .family) (s .k) (s .len) (map markOf (s .live))) out (rw is at h) .start (length-map (s .live) markOf ∙ size) in
-        rw is (ap startedC starts ∙ ap (λ (t : MarkedSession). record { refusal = 0; session = t }) (rw is at (back-and-there s e)))
+        let own : Session = record { family = s .family; k = s .k; len = s .len; steps = s .steps; live = map markOf (s .live); reads = s .reads } in
+        let is : sessionOfC s ≡ own = of-low s e in
+        rw is (ap startedC (live-list-claim own out (rw is at h) .start (length-map (s .live) markOf ∙ size)) ∙ rw (bytes-back (s .live) e))
 
 pub part-claim : PartClaim
 unfolding partIn bodyOf
@@ -109,7 +125,7 @@ part-claim bytes j = go (eqb (firstMet (bodyChecks bytes j)) 0) refl
     go false e = record { number = rw e; refused = λ h. rw e; part = rw e; size = λ h. absurd (eqb-false _ 0 e (rw e at h)) }
 
 pub same-fields : SameFieldsClaim
-same-fields s = record { family = refl; k = refl; len = refl }
+same-fields s = record { family = refl; k = refl; len = refl; steps = refl; reads = refl }
 
 module _ (family k : ℕ) (range : InRange family k 1) where
   count-is : nodeCountOr0 family k ≡ nodeCount (familyOf family) k

@@ -9,6 +9,7 @@ use Prim.Native.Nat.{ℕ, _*_, _≤_, _<_}
 use lib.Dec.{eqb}
 use lib.ListN.{length, getD, take, drop, replicate}
 use Rattle.lists.specs.Lists.{isIn}
+use Rattle.counts.specs.Counts.{countOf, sumOf}
 use Rattle.families.specs.Families.{familyOf, IsNode, nodeCount, columnOf, nodeOf, areRelated}
 use Rattle.encoding.specs.Encode.{encodeAnswer}
 use Rattle.interleaving.specs.Interleaved.{interleaved, deinterleaved, interleaveAnswer, outMoved}
@@ -22,14 +23,16 @@ use Rattle.planning.specs.Pairs.{NoPairLeft}
 use Rattle.leftover.specs.Open.{Open, OpenCount}
 use Rattle.repair.specs.declared.Session.{Session}
 use Rattle.repair.specs.declared.Started.{Started}
-use Rattle.repair.specs.Session.{refusedStart, started, noStart}
+use Rattle.repair.specs.Session.{refusedStart, started, unsound}
 use Rattle.repair.specs.Refusals.{Refused}
 use Rattle.repair.specs.Boxed.{readBox, nodesRead, written, outWritten}
 use Rattle.repair.specs.LiveNodes.{liveListed, outListed}
 use Rattle.repair.specs.ReadOut.{missingIn, readOut, objectOut}
 use Rattle.repair.specs.Step.{stepped, nodesStepped}
 use Rattle.repair.specs.Repairs.{planned, outPlanned, ran, nodesRan}
-use Rattle.repair.specs.Calls.{Move, run, State, Call, liveAfter, stateAfter}
+use Rattle.repair.specs.Calls.{Move, run, State, Call, madeAfter, liveAfter, stateAfter}
+use Rattle.repair.specs.Claims.{Sound}
+use Rattle.repair.specs.Reads.{timesRead}
 use Rattle.repair.specs.RepairClaims.{LiveAreOwn}
 use Rattle.repair.specs.WholeWay.{LowestOpen, NoneOpen, Way, startOf, nodesEncoded}
 use Rattle.mogtriz.specs.declared.sessions.MarkedSession.{MarkedSession}
@@ -40,11 +43,13 @@ use Rattle.mogtriz.specs.Calls.{calledC, lastSessionC}
 
 -- ---- a session handed to C and back
 
--- family, k and L are C's fields of the same name
+-- family, k, L, steps and reads are C's fields of the same name
 pub record SameFields (s : Session) : Type 0 where
   pub family : sessionForC s .family ≡ s .family
   pub k : sessionForC s .k ≡ s .k
   pub len : sessionForC s .len ≡ s .len
+  pub steps : sessionForC s .steps ≡ s .steps
+  pub reads : sessionForC s .reads ≡ s .reads
 
 abbrev pub SameFieldsClaim : Type 0
 SameFieldsClaim = (s : Session) → SameFields s
@@ -81,7 +86,7 @@ HandedBackClaim = (s : MarkedSession) → HandedBack s
 
 -- a refused mogtriz_start, mogtriz_check or mogtriz_read gives a session of zeros
 abbrev pub RefusedStartClaim : Type 0
-RefusedStartClaim = (number : ℕ) → startedC (refusedStart number) ≡ record { refusal = number; session = record { family = 0; k = 0; len = 0; live = replicate 256 0 } }
+RefusedStartClaim = (number : ℕ) → startedC (refusedStart number) ≡ record { refusal = number; session = record { family = 0; k = 0; len = 0; steps = 0; live = replicate 256 0; reads = replicate 256 0 } }
 
 -- of any session handed in: a refusal gives its number and zeros, the session as it was, and no byte is written
 pub record TurnedAway (s : MarkedSession) : Type 0 where
@@ -111,9 +116,23 @@ pub record ThirteenC (s : MarkedSession) : Type 0 where
   pub live : (out : List ℕ) → liveListedC s out .refusal ≡ 13
   pub read-out : (nodes object : List ℕ) → readOutC s nodes object .refusal ≡ 13
 
--- where a byte is above 1, or no start gives the session
+-- where a byte is above 1, or the session cannot stand
 abbrev pub ThirteenCClaim : Type 0
-ThirteenCClaim = (s : MarkedSession) → (someAbove1 (s .live) ≡ true) ⊎ (noStart (sessionOfC s) ≡ true) → ThirteenC s
+ThirteenCClaim = (s : MarkedSession) → (someAbove1 (s .live) ≡ true) ⊎ (unsound (sessionOfC s) ≡ true) → ThirteenC s
+
+-- no call on a session gives 13, whatever is asked for
+pub record NotThirteenC (s : MarkedSession) : Type 0 where
+  pub step : (nodes : List ℕ) (j a b : ℕ) → steppedC s nodes j a b .refusal ≡ 13 → ⊥
+  pub plan : (out : List ℕ) → plannedC s out .refusal ≡ 13 → ⊥
+  pub run : (nodes : List ℕ) → ranC s nodes .refusal ≡ 13 → ⊥
+  pub write : (nodes list out : List ℕ) → writtenC s nodes list out .refusal ≡ 13 → ⊥
+  pub live : (out : List ℕ) → liveListedC s out .refusal ≡ 13 → ⊥
+  pub read-out : (nodes object : List ℕ) → readOutC s nodes object .refusal ≡ 13 → ⊥
+
+-- where every byte is 0 or 1 and the session holds all that it has to
+abbrev pub NotThirteenCClaim : Type 0
+NotThirteenCClaim = (s : MarkedSession) → length (s .live) ≡ 256 → length (s .reads) ≡ 256
+    → someAbove1 (s .live) ≡ false → Sound (sessionOfC s) → NotThirteenC s
 
 -- ---- the calls agree
 
@@ -156,10 +175,11 @@ AgreeClaim = (s : Session) → Agree s
 abbrev pub listLeftC : MarkedSession → List ℕ → List ℕ
 listLeftC s out = take (liveListedC s out .length) (outListed (sessionOfC s) out)
 
--- where it is accepted, mogtriz_start by that list gives the session
+-- where it is accepted, mogtriz_start by that list gives the same family, k, L and marks, and zeros in the counts
 abbrev pub LiveListCClaim : Type 0
 LiveListCClaim = (s : MarkedSession) (out : List ℕ) → length (s .live) ≡ 256 → liveListedC s out .refusal ≡ 0
-    → startedC (started (s .family) (s .k) (s .len) (listLeftC s out)) ≡ record { refusal = 0; session = s }
+    → startedC (started (s .family) (s .k) (s .len) (listLeftC s out))
+    ≡ record { refusal = 0; session = record { family = s .family; k = s .k; len = s .len; steps = 0; live = s .live; reads = replicate 256 0 } }
 
 -- what mogtriz_read gives and leaves of a box is written by a list: mogtriz_write accepts it, and leaves the length and the bytes of the box
 pub record WrittenAgainC (s : MarkedSession) (bytes nodes list out : List ℕ) : Type 0 where
@@ -228,6 +248,23 @@ abbrev pub Demand3C : Type 0
 Demand3C = (family k L : ℕ) (list : List ℕ) → startedC (started family k L list) .refusal ≡ 0
     → (calls : List Call) (M : ℕ) → 1 ≤ M → LeftOverC family k L list calls M
 
+-- ---- reads by node, for C
+
+-- of a start's family, k, L and list, and a list of calls
+pub record CountedC (family k L : ℕ) (list : List ℕ) (calls : List Call) : Type 0 where
+  -- `steps` is how many steps were made, those of runs included, and `reads` of a number how many of them read it
+  pub steps : lastSessionC family k L list calls .steps ≡ length (madeAfter family k L list calls)
+  pub reads : (j : ℕ) → j < 256 → countOf (lastSessionC family k L list calls .reads) j ≡ timesRead j (madeAfter family k L list calls)
+  -- the reads sum to twice the steps, and those for 0 and above n are 0
+  pub sum : sumOf (lastSessionC family k L list calls .reads) ≡ 2 * lastSessionC family k L list calls .steps
+  pub none : (j : ℕ) → (IsNode (familyOf family) k j → ⊥) → countOf (lastSessionC family k L list calls .reads) j ≡ 0
+  -- and no call on the session gives 13
+  pub not-13 : NotThirteenC (lastSessionC family k L list calls)
+
+-- for every start that mogtriz_start accepts, and every list of calls, refused ones included
+abbrev pub CountedCClaim : Type 0
+CountedCClaim = (family k L : ℕ) (list : List ℕ) → startedC (started family k L list) .refusal ≡ 0 → (calls : List Call) → CountedC family k L list calls
+
 -- ---- the object's own blocks (demand 2), for C
 
 -- once session and buffer have gone through a list of steps and runs, every live block is the object's, and what mogtriz_read_out
@@ -239,7 +276,7 @@ pub record OwnC (object : List ℕ) (s : MarkedSession) (nodes : List ℕ) (move
 
 -- of a session with a byte above 1 it says nothing: every call refuses it, and the session of zeros has no live node
 abbrev pub OwnCClaim : Type 0
-OwnCClaim = (object : List ℕ) (s : MarkedSession) (nodes : List ℕ) → length (s .live) ≡ 256 → length object ≡ s .k * s .len
+OwnCClaim = (object : List ℕ) (s : MarkedSession) (nodes : List ℕ) → length (s .live) ≡ 256 → length (s .reads) ≡ 256 → length object ≡ s .k * s .len
     → LiveAreOwn object (sessionOfC s) nodes → (moves : List Move) → OwnC object s nodes moves
 
 -- ---- the whole way, for C

@@ -34,13 +34,14 @@ someAbove1 (byte ∷ bytes) = ltb 1 byte || someAbove1 bytes
 
 -- a session as C has it
 abbrev pub sessionForC : Session → MarkedSession
-sessionForC s = record { family = s .family; k = s .k; len = s .len; live = map byteOf (s .live) }
+sessionForC s = record { family = s .family; k = s .k; len = s .len; steps = s .steps; live = map byteOf (s .live); reads = s .reads }
 
--- C's session as the library's. One with a byte above 1 becomes the session of zeros, which no start gives: every call on it gives
+-- C's session as the library's. One with a byte above 1 becomes the session of zeros, whose family is none: every call on it gives
 -- 13 (`ThirteenCClaim`)
 unfoldable pub sessionOfC : MarkedSession → Session
 sessionOfC s =
-    cond (someAbove1 (s .live)) (sessionWith 0 0 0 noneLive) (sessionWith (s .family) (s .k) (s .len) (map markOf (s .live)))
+    cond (someAbove1 (s .live)) (sessionWith 0 0 0 noneLive)
+    (record { family = s .family; k = s .k; len = s .len; steps = s .steps; live = map markOf (s .live); reads = s .reads })
 
 -- what a start or a box gives
 abbrev pub startedC : Started → StartAnswer

@@ -1,5 +1,5 @@
 // Sessions and boxes from C. A session's marks come as bytes, since another value than 0 or 1 in a `bool` is undefined: a
-// session with a byte above 1 is one that no start gives. Each call is the session's own, and write, live nodes and read out hand
+// session with a byte above 1 is turned away with 13. Each call is the session's own, and write, live nodes and read out hand
 // the session back as it came, byte for byte.
 use repair::Session;
 use repair::Written;
@@ -17,7 +17,9 @@ pub struct MarkedSession {
     pub family: usize,
     pub k: usize,
     pub len: usize,
+    pub steps: usize,
     pub live: [u8; 256],
+    pub reads: [u16; 256],
 }
 
 // C's mogtriz_started.
@@ -102,8 +104,8 @@ fn some_above_1(bytes: [u8; 256]) -> bool
 }
 
 impl MarkedSession {
-    // The session that C's is. No start gives one with a byte above 1: the session of zeros stands for it, which no start gives
-    // either, so that every call turns it away with 13.
+    // The session that C's is. For one with a byte above 1 stands the session of zeros, whose family is none, so that every call
+    // turns it away with 13.
     pub fn session(self) -> Session
         ensures { λ r. ⌜ r ≡ sessionOfC self ⌝ }
     {
@@ -113,15 +115,20 @@ impl MarkedSession {
                 family: 0,
                 k: 0,
                 len: 0,
+                steps: 0,
                 live: [false; 256],
+                reads: [0u16; 256],
             };
         }
         let live = marks_of_bytes(bytes);
+        let reads = self.reads;
         Session {
             family: self.family,
             k: self.k,
             len: self.len,
+            steps: self.steps,
             live: live,
+            reads: reads,
         }
     }
 }
@@ -132,11 +139,14 @@ pub fn marked(session: Session) -> MarkedSession
 {
     let marks = session.live;
     let bytes = bytes_of(marks);
+    let reads = session.reads;
     MarkedSession {
         family: session.family,
         k: session.k,
         len: session.len,
+        steps: session.steps,
         live: bytes,
+        reads: reads,
     }
 }
 

@@ -76,14 +76,10 @@ module _ (input : List ℕ) (passes : checkedBox input .refusal ≡ 0) where
 
     -- the session that is written from has the box's family, k and L, and fits the nodes buffer
     pub same : SameCode given (afterRun given buffer)
-    same = let s = fits-claim .same given buffer run in record { family = cc; k = cc; len = cc }
+    same = fits-claim .same given buffer run
 
     pub after-fits : Fits (afterRun given buffer) (nodesRan given buffer)
-    after-fits =
-        let before = buffer-fits in
-        let after = fits-claim .call given buffer buffer-fits run in
-        let s = fits-claim .same given buffer run in
-        record { marks = cc; starts = cc; size = cc }
+    after-fits = fits-claim .call given buffer buffer-fits run
 
     abbrev next : Session
     next = afterRun given buffer

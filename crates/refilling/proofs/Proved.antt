@@ -21,7 +21,7 @@ use Rattle.repair.specs.declared.Session.{Session}
 use Rattle.repair.specs.declared.Started.{Started}
 use Rattle.repair.specs.declared.Written.{Written}
 use Rattle.repair.specs.declared.Repairs.{Repairs}
-use Rattle.repair.specs.Session.{nodeCountOf}
+use Rattle.repair.specs.Session.{afresh, nodeCountOf, unsound}
 use Rattle.repair.specs.Boxed.{sessionIn, checkedBox, readBox, nodesRead, written}
 use Rattle.repair.specs.LiveNodes.{liveNodesOf}
 use Rattle.repair.specs.Repairs.{ran, nodesRan}
@@ -107,14 +107,14 @@ module _ (input : List ℕ) (passes : checkedBox input .refusal ≡ 0) (short : 
   names-are : namesIn refilled ≡ names
   names-are = ap namesIn is-written ∙ wrote .names
 
-  -- its session is the one that it was written from
-  checked : checkedBox refilled ≡ record { refusal = 0; session = next }
-  checked = ap checkedBox is-written ∙ write-live-claim next after lent room (after-fits input passes zeros zeros-fit .marks) (ap (λ (r : Written). r .refusal) (lists .answer)) writes
+  -- its session is the one that it was written from, as it was before any step
+  checked : checkedBox refilled ≡ record { refusal = 0; session = afresh next }
+  checked = ap checkedBox is-written ∙ write-live-claim next after lent room (after-fits input passes zeros zeros-fit .arrays .marks) (ap (λ (r : Written). r .refusal) (lists .answer)) writes
 
   accepted : checkedBox refilled .refusal ≡ 0
   accepted = ap (λ (r : Started). r .refusal) checked
 
-  session-kept : sessionIn refilled ≡ next
+  session-kept : sessionIn refilled ≡ afresh next
   session-kept = ap (λ (r : Started). r .session) (sym (box-start-claim refilled accepted .is) ∙ checked)
 
   -- of the same family, k and L
@@ -176,7 +176,7 @@ module _ (input : List ℕ) (passes : checkedBox input .refusal ≡ 0) (short : 
     keeps =
         block-written
         ∙ ap (λ (L : ℕ). blockOf L after node) (same input passes zeros zeros-fit .len)
-        ∙ run-claim given (buffer-fits input passes zeros zeros-fit .marks) buffer (runs input passes zeros zeros-fit) .live-kept node
+        ∙ run-claim given (buffer-fits input passes zeros zeros-fit .arrays) buffer (runs input passes zeros zeros-fit) .live-kept node
         (subst (λ (s : Session). IsNode (familyOf (s .family)) (s .k) node) (sym given-is) is-node) live-before
         ∙ ap (λ (L : ℕ). blockOf L buffer node) (ap (λ (s : Session). s .len) given-is)
         ∙ read-body-claim input zeros (reads input passes zeros zeros-fit) i l
@@ -187,7 +187,7 @@ module _ (input : List ℕ) (passes : checkedBox input .refusal ≡ 0) (short : 
       let c = own-box-claim in
       let read-own : LiveAreOwn object given buffer
       = subst (λ (r : Started). LiveAreOwn object (r .session) buffer) (read-is input passes zeros zeros-fit) (c .read object input zeros bodies (reads input passes zeros zeros-fit)) in
-      let moved = own-claim object given buffer (buffer-fits input passes zeros zeros-fit .marks) (size ∙ ap (λ (s : Session). s .k * s .len) (sym given-is)) read-own (run ∷ []) in
+      let moved = own-claim object given buffer (buffer-fits input passes zeros zeros-fit .arrays) (size ∙ ap (λ (s : Session). s .k * s .len) (sym given-is)) read-own (run ∷ []) in
       subst (BodiesAreOwn object) (sym is-written) (c .write object next after names room (moved .live) writes)
 
 -- ---- refilled again
@@ -215,8 +215,8 @@ module _ (input : List ℕ) (passes : checkedBox input .refusal ≡ 0) (short : 
   reads-again : readBox first (zeros first passes-again short-again) .refusal ≡ 0
   reads-again = reads first passes-again (zeros first passes-again short-again) (zeros-fit first passes-again short-again)
 
-  -- the session is the one after the first run
-  session-again : readBox first (zeros first passes-again short-again) .session ≡ next input passes short
+  -- the session is the one after the first run, as it was before any step
+  session-again : readBox first (zeros first passes-again short-again) .session ≡ afresh (next input passes short)
   session-again =
       ap (λ (r : Started). r .session) (read-is first passes-again (zeros first passes-again short-again) (zeros-fit first passes-again short-again) ∙ checked input passes short)
 
@@ -227,11 +227,12 @@ module _ (input : List ℕ) (passes : checkedBox input .refusal ≡ 0) (short : 
   same-size : nodeCountIn first * blockLengthIn first ≡ nodeCountIn input * blockLengthIn input
   same-size = let c = code input passes short in rw (c .family, c .k, c .len)
 
-  quiet : RunAgain start read-first read-again
+  quiet : RunAgain start read-first (afresh (next input passes short)) read-again
   quiet =
       let f = buffer-fits input passes (zeros input passes short) (zeros-fit input passes short) in
       let g = buffer-fits first passes-again (zeros first passes-again short-again) (zeros-fit first passes-again short-again) in
-      run-claim start (f .marks) read-first (runs input passes (zeros input passes short) (zeros-fit input passes short)) .again read-again
+      run-claim start (f .arrays) read-first (runs input passes (zeros input passes short) (zeros-fit input passes short)) .again (afresh (next input passes short)) read-again
+      refl (subst (λ (r : Started). unsound (r .session) ≡ false) (checked input passes short) (g .sound))
       (g .size ∙ ap room-of (session-is first passes-again) ∙ same-size ∙ ap room-of (sym (given-is input passes short)))
 
   low-byte : getD first 2 0 < 256

@@ -47,7 +47,7 @@ accepts-claim s =
             (none-zero (writeChecks s nodes list out) (p .0 .0, (ap not (eq-eqb _ _ (p .0 .1)), (p .1, (ap not (p .2), (p .3, (le-ltb _ _ (p .4), tt))))))))),
       );
       live = λ out. (
-        (λ h. let a = accepted-list s out (list-accepted s out h) in (a .starts, a .room)),
+        (λ h. let a = accepted-list s out (list-accepted s out h) in (a .sound, a .room)),
         (λ p. ap (λ (r : Written). r .refusal) (sym (live-listed s out (p .0) (p .1) .answer-is))),
       );
       read-out = λ nodes object. (

@@ -2,24 +2,22 @@
 -- Assumes nothing.
 use mathlib.Core.Path.{_≡_, refl, sym, ap, _∙_}
 use mathlib.Core.Bool.{Bool, true, false, not}
-use mathlib.Core.List.{List}
+use mathlib.Core.List.{List, [], _∷_}
 use Prim.Native.Nat.{ℕ, _*_, _≤_}
 use native.Mathlib.Nat.{mul-le-mul-right}
 use native.Mathlib.Omega.{arith}
 use borrow.Author.Tests.{eqb-true, eq-eqb, le-ltb}
 use lib.Dec.{eqb}
-use lib.ListN.{length, length-set}
+use lib.ListN.{length}
 use Rattle.families.specs.Families.{familyOf, nodeCount}
-use Rattle.families.proofs.Laws.{few}
 use Rattle.checks.specs.Checks.{firstMet}
-use Rattle.checks.proofs.Laws.{none-zero, none-append, parameters-in}
+use Rattle.checks.proofs.Laws.{none-zero, none-append}
 use Rattle.checks.proofs.AnswerLaws.{answer-either}
-use Rattle.lists.specs.Lists.{noneLive, setLive}
-use Rattle.lists.proofs.Laws.{length-setLive, list-outside-none, live-nodes-few, live-nodes-inside, live-nodes-rise, live-nodes-live}
-use Rattle.boxes.specs.Box.{blockLengthIn, namesIn, nodeCountIn, boxLength, boxChecks}
+use Rattle.lists.proofs.Laws.{live-nodes-few, live-nodes-inside, live-nodes-rise, live-nodes-live}
+use Rattle.boxes.specs.Box.{familyIn, kIn, blockLengthIn, namesIn, nodeCountIn, boxLength, boxChecks}
 use Rattle.boxes.proofs.Answers.{box-none}
 use Rattle.boxes.proofs.Laws.{accepted-box}
-use Rattle.planning.specs.Plan.{Step, repairedNodes}
+use Rattle.planning.specs.Plan.{Step}
 use Rattle.repair.specs.declared.Session.{Session}
 use Rattle.repair.specs.declared.Written.{Written}
 use Rattle.repair.specs.declared.Stepped.{Stepped}
@@ -27,17 +25,18 @@ use Rattle.repair.specs.declared.Repairs.{Repairs}
 use Rattle.repair.specs.Session.{sessionOf, startChecks, started, nodeCountOf, nodesChecks}
 use Rattle.repair.specs.Boxed.{checkedBox, readChecks, readBox, nodesRead, writeChecks, written}
 use Rattle.repair.specs.LiveNodes.{liveNodesOf, liveListed}
-use Rattle.repair.specs.Step.{stepChecks, stepped, nodesStepped}
+use Rattle.repair.specs.Step.{stepChecks, namedStep, stepped, nodesStepped}
 use Rattle.repair.specs.Repairs.{planIn, refusedRepairs, ran, nodesRan}
 use Rattle.repair.specs.Calls.{Move, step, run, called}
 use Rattle.repair.specs.Claims.{listLeft}
 use Rattle.repair.specs.WholeWay.{Fits, SameCode}
 use Rattle.repair.proofs.Refused.{refusedStep}
 use Rattle.repair.proofs.Accepted.{list-accepted}
-use Rattle.repair.proofs.StartLaws.{no-start-marks, nodes-0, accepted-start}
+use Rattle.repair.proofs.StartLaws.{nodes-0, accepted-start, start-sound, start-arrays}
+use Rattle.repair.proofs.AfterLaws.{after-arrays}
 use Rattle.repair.proofs.LiveListLaws.{live-listed, list-is}
 use Rattle.repair.proofs.StepLaws.{accepted-step}
-use Rattle.repair.proofs.RoundTripLaws.{box-starts, accepted-read, session-read, read-size}
+use Rattle.repair.proofs.RoundTripLaws.{box-sound, accepted-read, session-read, read-size}
 use Rattle.repair.proofs.OwnLaws.{session-stepped, nodes-stepped, sized-stepped, session-ran, ran-sized}
 
 -- ---- start and read
@@ -50,11 +49,10 @@ module _ (family k L : ℕ) (list : List ℕ) (e : firstMet (startChecks family 
   pub start-fits : (nodes : List ℕ) → length nodes ≡ nodeCount (familyOf family) k * L → Fits (started family k L list .session) nodes
   start-fits nodes size =
       let a = accepted-start family k L list e in
-      let s = sessionOf family k L list in
       rw session-started
       (record {
-        marks = length-setLive noneLive list;
-        starts = no-start-marks s (parameters-in family k L (a .range)) ∙ list-outside-none (nodeCountOf s) list (few (familyOf family) k (a .range .blocks)) (a .outside);
+        arrays = start-arrays family k L list;
+        sound = start-sound family k L list (a .range) (a .outside);
         size = size;
       })
 
@@ -69,8 +67,8 @@ module _ (bytes nodes : List ℕ) (e : firstMet (readChecks bytes nodes) ≡ 0) 
   read-fits =
       rw (session-read bytes nodes e)
       (record {
-        marks = length-setLive noneLive (namesIn bytes);
-        starts = box-starts bytes (accepted-box bytes (accepted-read bytes nodes e .passes));
+        arrays = start-arrays (familyIn bytes) (kIn bytes) (blockLengthIn bytes) (namesIn bytes);
+        sound = box-sound bytes (accepted-box bytes (accepted-read bytes nodes e .passes));
         size = read-size bytes nodes e;
       })
 
@@ -78,27 +76,27 @@ module _ (bytes nodes : List ℕ) (e : firstMet (readChecks bytes nodes) ≡ 0) 
 
 module _ (s : Session) (nodes : List ℕ) where
   pub fits-runs : Fits s nodes → firstMet (nodesChecks s (length nodes)) ≡ 0
-  fits-runs f = nodes-0 s (length nodes) (f .starts) (f .size)
+  fits-runs f = nodes-0 s (length nodes) (f .sound) (f .size)
 
   fits-ran : Fits s nodes → Fits (ran s nodes .session) (nodesRan s nodes)
   fits-ran f =
       let e = fits-runs f in
-      let z = ran-sized s nodes e (f .marks) in
-      record { marks = rw (session-ran s nodes e) (length-setLive (s .live) (repairedNodes (planIn s)) ∙ f .marks); starts = z .starts; size = z .size }
+      let z = ran-sized s nodes e (f .arrays) in
+      record { arrays = rw (session-ran s nodes e) (after-arrays s (f .arrays) (planIn s)); sound = z .sound; size = z .size }
 
   fits-stepped : Fits s nodes → (j a b : ℕ) → Fits (stepped s nodes j a b .session) (nodesStepped s nodes j a b)
-  unfolding stepped nodesStepped setLive
+  unfolding stepped nodesStepped
   fits-stepped f j a b = go (eqb (firstMet (stepChecks s nodes j a b)) 0) refl
     where
       made : Step
-      made = record { round = 0; node = j; smaller = a; larger = b }
+      made = namedStep j a b
 
       go : (met : Bool) → eqb (firstMet (stepChecks s nodes j a b)) 0 ≡ met → Fits (stepped s nodes j a b .session) (nodesStepped s nodes j a b)
       go true e =
           let w = accepted-step s nodes made (eqb-true _ 0 e) in
-          let z = sized-stepped s nodes made w in
+          let z = sized-stepped s nodes made w (f .arrays) in
           rw (session-stepped s nodes made w, nodes-stepped s nodes made w)
-          (record { marks = length-set (s .live) j true ∙ f .marks; starts = z .starts; size = z .size })
+          (record { arrays = after-arrays s (f .arrays) (made ∷ []); sound = z .sound; size = z .size })
       go false e = rw e f
 
   pub fits-call : Fits s nodes → (move : Move) → Fits (called s nodes move .session) (called s nodes move .nodes)
@@ -123,7 +121,7 @@ module _ (s : Session) (nodes room : List ℕ) (f : Fits s nodes) where
   few-live = live-nodes-few (s .live) (nodeCountOf s)
 
   pub fits-list : nodeCountOf s ≤ length room → liveListed s room .refusal ≡ 0
-  fits-list h = ap (λ (r : Written). r .refusal) (sym (live-listed s room (f .starts) (omega (arith, few-live)) .answer-is))
+  fits-list h = ap (λ (r : Written). r .refusal) (sym (live-listed s room (f .sound) (omega (arith, few-live)) .answer-is))
 
   pub fits-write : (out : List ℕ) → liveListed s room .refusal ≡ 0 → boxLength (nodeCountOf s) (s .len) ≤ length out → written s nodes (listLeft s room) out .refusal ≡ 0
   unfolding written writeChecks nodesChecks
@@ -131,5 +129,5 @@ module _ (s : Session) (nodes room : List ℕ) (f : Fits s nodes) where
       let list = liveNodesOf s in
       let none : firstMet (writeChecks s nodes list out) ≡ 0
       = none-zero (writeChecks s nodes list out)
-      (f .starts, (ap not (eq-eqb (length nodes) (nodeCountOf s * s .len) (f .size)), (live-nodes-inside (s .live) (nodeCountOf s), (ap not (live-nodes-rise (s .live) (nodeCountOf s)), (live-nodes-live (s .live) (nodeCountOf s), (le-ltb (length out) (boxLength (length list) (s .len)) (omega (arith, few-live, mul-le-mul-right (s .len) few-live)), tt)))))) in
+      (f .sound, (ap not (eq-eqb (length nodes) (nodeCountOf s * s .len) (f .size)), (live-nodes-inside (s .live) (nodeCountOf s), (ap not (live-nodes-rise (s .live) (nodeCountOf s)), (live-nodes-live (s .live) (nodeCountOf s), (le-ltb (length out) (boxLength (length list) (s .len)) (omega (arith, few-live, mul-le-mul-right (s .len) few-live)), tt)))))) in
       rw (list-is s room (list-accepted s room l), none)

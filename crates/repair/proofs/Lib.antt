@@ -5,6 +5,7 @@ pub mod ReadOutLaws
 pub mod LiveListLaws
 pub mod BoxedLaws
 pub mod RoundTripLaws
+pub mod AfterLaws
 pub mod StepLaws
 pub mod RepairsLaws
 pub mod Proved
@@ -13,6 +14,7 @@ pub mod RepairsProved
 pub mod LeftOverLaws
 pub mod CallLaws
 pub mod LeftOverProved
+pub mod ReadsProved
 pub mod FitsLaws
 pub mod WholeWayProved
 pub mod RefusalsProved

@@ -16,7 +16,7 @@ use Rattle.checks.proofs.AnswerLaws.{Gives, serves, refuses}
 use Rattle.lists.proofs.Laws.{live-nodes-inside, live-nodes-rise, live-nodes-of-list, marks-of-live-nodes}
 use Rattle.repair.specs.declared.Session.{Session}
 use Rattle.repair.specs.declared.Written.{Written}
-use Rattle.repair.specs.Session.{sessionWith, sessionOf, acceptedStart, startChecks, started, nodeCountOf, noStart}
+use Rattle.repair.specs.Session.{sessionWith, afresh, sessionOf, acceptedStart, startChecks, started, nodeCountOf, unsound}
 use Rattle.repair.specs.Boxed.{refusedWrite}
 use Rattle.repair.specs.LiveNodes.{liveNodesOf, liveChecks, liveListed, outListed}
 use Rattle.repair.specs.Claims.{listLeft}
@@ -31,11 +31,11 @@ module _ (s : Session) (out : List ℕ) where
   unfolding liveListed outListed
   refused = refuses (liveChecks s out) _ (refusedWrite s) _ out
 
-  pub live-13 : noStart s ≡ true → Lists (refusedWrite s 13) out
+  pub live-13 : unsound s ≡ true → Lists (refusedWrite s 13) out
   unfolding liveChecks firstMet
   live-13 e = refused 13 (rw e) (λ z. omega arith)
 
-  module _ (e : noStart s ≡ false) where
+  module _ (e : unsound s ≡ false) where
     pub live-6 : length out < length (liveNodesOf s) → Lists (refusedWrite s 6) out
     unfolding liveChecks firstMet
     live-6 h = refused 6 (rw (e, lt-ltb (length out) (length (liveNodesOf s)) h)) (λ z. omega arith)
@@ -52,12 +52,12 @@ module _ (s : Session) (out : List ℕ) where
   -- ---- where it is accepted
 
   pub record AcceptedList : Type 0 where
-    pub starts : noStart s ≡ false
+    pub sound : unsound s ≡ false
     pub room : length (liveNodesOf s) ≤ length out
 
   pub accepted-list : firstMet (liveChecks s out) ≡ 0 → AcceptedList
   unfolding liveChecks
-  accepted-list e = let n = accepted (liveChecks s out) refl e in record { starts = n .0; room = ltb-false _ _ (n .1 .0) }
+  accepted-list e = let n = accepted (liveChecks s out) refl e in record { sound = n .0; room = ltb-false _ _ (n .1 .0) }
 
   module _ (e : firstMet (liveChecks s out) ≡ 0) where
     -- the list that is left is the live nodes
@@ -75,8 +75,8 @@ module _ (s : Session) (out : List ℕ) where
 
 -- ---- a start by the live nodes, and the live nodes of a start
 
--- it gives the session
-pub live-starts : (s : Session) → length (s .live) ≡ 256 → noStart s ≡ false → started (s .family) (s .k) (s .len) (liveNodesOf s) ≡ acceptedStart s
+-- it gives the session as it was before any step
+pub live-starts : (s : Session) → length (s .live) ≡ 256 → unsound s ≡ false → started (s .family) (s .k) (s .len) (liveNodesOf s) ≡ acceptedStart (afresh s)
 unfolding started
 live-starts s size e =
     let g = known s e in

@@ -1,8 +1,8 @@
 -- Steps and runs as calls on a session and a nodes buffer: a run is its plan's steps, and both keep the object's own blocks.
 -- Assumes nothing.
-use mathlib.Core.Path.{_≡_, refl, sym, ap₂, _∙_, subst}
+use mathlib.Core.Path.{_≡_, refl, sym, ap, ap₂, _∙_, subst}
 use mathlib.Core.Bool.{Bool, true, false, cond, false≢true}
-use mathlib.Core.List.{List, [], _∷_, map, getLastD}
+use mathlib.Core.List.{List, [], _∷_, map, flatMap, getLastD}
 use Prim.Native.Nat.{ℕ, _*_, _≤_}
 use native.Mathlib.Decide.{ℕ-discrete}
 use native.Mathlib.Omega.{arith}
@@ -21,16 +21,15 @@ use Rattle.blocks.proofs.PartLaws.{length-blockOf}
 use Rattle.blocks.proofs.XorBytes.{length-xorBytes}
 use Rattle.blocks.proofs.JoinedLaws.{same-joined}
 use Rattle.checks.specs.Checks.{firstMet}
-use Rattle.checks.proofs.Laws.{accepted, parameters-in}
+use Rattle.checks.proofs.Laws.{accepted}
 use Rattle.encoding.specs.Matrix.{nodeBlock, nodesBuffer}
 use Rattle.encoding.proofs.Nodes.{related-block, buffer-block}
 use Rattle.lists.specs.Lists.{isLive, setLive}
-use Rattle.lists.proofs.Laws.{set-outside-none}
 use Rattle.lists.proofs.MarkLaws.{set-keeps, live-keeps}
 use Rattle.planning.specs.Claims.{CanMakeAll}
 use Rattle.planning.specs.Made.{mended, nodesMade}
 use Rattle.planning.specs.Pairs.{NoPairLeft}
-use Rattle.planning.specs.Plan.{Step, repairedNodes, lastRound, nodesLeft}
+use Rattle.planning.specs.Plan.{Step, repairedNodes, sourcesOf, lastRound, nodesLeft}
 use Rattle.planning.proofs.CarryLaws.{length-mended}
 use Rattle.planning.proofs.Proved.{plan-claim}
 use Rattle.readout.specs.DataBlocks.{dataNode, missingBlock}
@@ -38,36 +37,29 @@ use Rattle.readout.proofs.Laws.{data-node, blocks-of-encoded}
 use Rattle.repair.specs.declared.Session.{Session}
 use Rattle.repair.specs.declared.Stepped.{Stepped}
 use Rattle.repair.specs.declared.Repairs.{Repairs}
-use Rattle.repair.specs.Session.{nodeCountOf, noStart, nodesChecks}
+use Rattle.repair.specs.Session.{Arrays, nodeCountOf, unsound, nodesChecks}
 use Rattle.repair.specs.ReadOut.{missingIn, readOutChecks, objectOut}
-use Rattle.repair.specs.Step.{stepChecks, withLive, stepped, nodesStepped}
+use Rattle.repair.specs.Step.{stepChecks, afterSteps, namedStep, stepped, nodesStepped}
 use Rattle.repair.specs.Repairs.{planIn, ran, nodesRan}
 use Rattle.repair.specs.Calls.{Move, step, run, State, called, stateAfter}
 use Rattle.repair.specs.RepairClaims.{LiveAreOwn}
-use Rattle.repair.proofs.StartLaws.{Known, known, Sized, sized, no-start-marks}
+use Rattle.repair.proofs.StartLaws.{Known, known, Sized, sized}
+use Rattle.repair.proofs.AfterLaws.{none-made, after-append, after-arrays, after-sound}
 use Rattle.repair.proofs.StepLaws.{AcceptedStep, accepted-step, step-accepted}
 use Rattle.repair.proofs.ReadOutLaws.{read}
-
--- ---- a session with one node more is still one that some start gives
-
-start-kept : (s : Session) (j : ℕ) → IsNode (familyOf (s .family)) (s .k) j → noStart s ≡ false → noStart (withLive s (j ∷ [])) ≡ false
-unfolding setLive
-start-kept s j n e =
-    let g = known s e in
-    no-start-marks (withLive s (j ∷ [])) (parameters-in (s .family) (s .k) (s .len) (g .range)) ∙ set-outside-none (nodeCountOf s) (s .live) j (n .first) (n .last) (g .inside)
 
 -- ---- a step, accepted
 
 -- what it gives
 abbrev pub sessionMade : Session → Step → Session
-sessionMade s made = withLive s (made .node ∷ [])
+sessionMade s made = afterSteps s (made ∷ [])
 
 abbrev pub nodesWith : Session → List ℕ → Step → List ℕ
 nodesWith s nodes made = mended (s .len) nodes (made .node) (made .smaller) (made .larger)
 
 module _ (s : Session) (nodes : List ℕ) (made : Step) (w : AcceptedStep s nodes made) where
   pub session-stepped : stepped s nodes (made .node) (made .smaller) (made .larger) .session ≡ sessionMade s made
-  unfolding stepped
+  unfolding stepped sourcesOf flatMap
   session-stepped = rw (step-accepted s nodes made w)
 
   pub nodes-stepped : nodesStepped s nodes (made .node) (made .smaller) (made .larger) ≡ nodesWith s nodes made
@@ -94,11 +86,11 @@ module _ (s : Session) (nodes : List ℕ) (made : Step) (w : AcceptedStep s node
   block-kept : (i : ℕ) → IsNode (familyOf (s .family)) (s .k) i → (i ≡ made .node → ⊥) → blockOf (s .len) (nodesWith s nodes made) i ≡ blockOf (s .len) nodes i
   block-kept i n d = blockOf-other (s .len) nodes (made .node) block (in-nodes (made .node) (w .makes .node)) full i (n .first) d
 
-  pub sized-stepped : Sized (sessionMade s made) (length (nodesWith s nodes made))
-  sized-stepped =
+  pub sized-stepped : Arrays s → Sized (sessionMade s made) (length (nodesWith s nodes made))
+  sized-stepped arrays =
       let m = w .makes in
       record {
-        starts = start-kept s (made .node) (m .node) (w .buffer .starts);
+        sound = after-sound s arrays (made ∷ []) (w .buffer .sound) (m, tt);
         size = length-mended (in-nodes (made .node) (m .node)) (in-nodes (made .smaller) (m .smaller)) (in-nodes (made .larger) (m .larger)) ∙ w .buffer .size;
       }
 
@@ -108,21 +100,37 @@ module _ (s : Session) (nodes : List ℕ) (made : Step) (w : AcceptedStep s node
 abbrev asMove : Step → Move
 asMove made = step (made .node) (made .smaller) (made .larger)
 
-steps-state : (s : Session) (nodes : List ℕ) (steps : List Step) → Sized s (length nodes) → CanMakeAll (familyOf (s .family)) (s .k) (s .live) steps
-    → stateAfter called s nodes (map asMove steps) ≡ record { session = withLive s (repairedNodes steps); nodes = nodesMade (s .len) nodes steps }
-unfolding stateAfter nodesMade setLive
-steps-state s nodes [] z a = refl
-steps-state s nodes (x ∷ steps) z a =
-    let w : AcceptedStep s nodes x = record { buffer = z; makes = a .0 } in
-    ap₂ (λ (t : Session) (b : List ℕ). stateAfter called t b (map asMove steps)) (session-stepped s nodes x w) (nodes-stepped s nodes x w)
-    ∙ steps-state (sessionMade s x) (nodesWith s nodes x) steps (sized-stepped s nodes x w) (a .1)
+-- a session that they can be made from, and a nodes buffer of its size
+record Makes (s : Session) (nodes : List ℕ) (steps : List Step) : Type 0 where
+  arrays : Arrays s
+  buffer : Sized s (length nodes)
+  all : CanMakeAll (familyOf (s .family)) (s .k) (s .live) steps
 
--- the session and the buffer after them are again such as an operation accepts
-steps-sized : (s : Session) (nodes : List ℕ) (steps : List Step) → Sized s (length nodes) → CanMakeAll (familyOf (s .family)) (s .k) (s .live) steps
-    → Sized (withLive s (repairedNodes steps)) (length (nodesMade (s .len) nodes steps))
-unfolding nodesMade setLive
-steps-sized s nodes [] z a = z
-steps-sized s nodes (x ∷ steps) z a = steps-sized (sessionMade s x) (nodesWith s nodes x) steps (sized-stepped s nodes x (record { buffer = z; makes = a .0 })) (a .1)
+module _ (s : Session) (nodes : List ℕ) (x : Step) (steps : List Step) (m : Makes s nodes (x ∷ steps)) where
+  -- the first
+  now-made : AcceptedStep s nodes x
+  now-made = record { buffer = m .buffer; makes = m .all .0 }
+
+  -- and then the others
+  then-makes : Makes (sessionMade s x) (nodesWith s nodes x) steps
+  unfolding setLive
+  then-makes = record { arrays = after-arrays s (m .arrays) (x ∷ []); buffer = sized-stepped s nodes x now-made (m .arrays); all = m .all .1 }
+
+steps-state : (s : Session) (nodes : List ℕ) (steps : List Step) → Makes s nodes steps
+    → stateAfter called s nodes (map asMove steps) ≡ record { session = afterSteps s steps; nodes = nodesMade (s .len) nodes steps }
+unfolding stateAfter nodesMade
+steps-state s nodes [] m = ap (λ (t : Session). record { session = t; nodes = nodes }) (none-made s)
+steps-state s nodes (x ∷ steps) m =
+    let w = now-made s nodes x steps m in
+    ap₂ (λ (t : Session) (b : List ℕ). stateAfter called t b (map asMove steps)) (session-stepped s nodes x w) (nodes-stepped s nodes x w)
+    ∙ steps-state (sessionMade s x) (nodesWith s nodes x) steps (then-makes s nodes x steps m)
+    ∙ ap (λ (t : Session). record { session = t; nodes = nodesMade (s .len) (nodesWith s nodes x) steps }) (after-append s (x ∷ []) steps)
+
+-- the buffer after them has its size
+steps-size : (s : Session) (nodes : List ℕ) (steps : List Step) → Makes s nodes steps → length (nodesMade (s .len) nodes steps) ≡ nodeCountOf s * s .len
+unfolding nodesMade
+steps-size s nodes [] m = m .buffer .size
+steps-size s nodes (x ∷ steps) m = steps-size (sessionMade s x) (nodesWith s nodes x) steps (then-makes s nodes x steps m)
 
 -- no step of them repairs node j
 abbrev Apart : ℕ → List Step → Type 0
@@ -130,15 +138,14 @@ Apart j [] = Unit {0}
 Apart j (x ∷ steps) = (j ≡ x .node → ⊥) × Apart j steps
 
 -- the blocks of nodes that none of them repairs are as they were
-steps-keep : (s : Session) (nodes : List ℕ) (steps : List Step) → Sized s (length nodes) → CanMakeAll (familyOf (s .family)) (s .k) (s .live) steps
+steps-keep : (s : Session) (nodes : List ℕ) (steps : List Step) → Makes s nodes steps
     → (j : ℕ) → IsNode (familyOf (s .family)) (s .k) j → Apart j steps
     → blockOf (s .len) (nodesMade (s .len) nodes steps) j ≡ blockOf (s .len) nodes j
-unfolding nodesMade setLive
-steps-keep s nodes [] z a j n d = refl
-steps-keep s nodes (x ∷ steps) z a j n d =
-    let w : AcceptedStep s nodes x = record { buffer = z; makes = a .0 } in
-    steps-keep (sessionMade s x) (nodesWith s nodes x) steps (sized-stepped s nodes x w) (a .1) j n (d .1)
-    ∙ block-kept s nodes x w j n (d .0)
+unfolding nodesMade
+steps-keep s nodes [] m j n d = refl
+steps-keep s nodes (x ∷ steps) m j n d =
+    steps-keep (sessionMade s x) (nodesWith s nodes x) steps (then-makes s nodes x steps m) j n (d .1)
+    ∙ block-kept s nodes x (now-made s nodes x steps m) j n (d .0)
 
 -- such are the nodes that are missing after them
 left-apart : (f : Family) (k : ℕ) → KInRange f k → (marks : List Bool) (steps : List Step) → length marks ≡ 256 → CanMakeAll f k marks steps
@@ -165,41 +172,45 @@ module _ (s : Session) (nodes : List ℕ) (e : firstMet (nodesChecks s (length n
   run-sized = sized s (length nodes) e
 
   pub run-known : Known s
-  run-known = known s (run-sized .starts)
+  run-known = known s (run-sized .sound)
 
-  pub session-ran : ran s nodes .session ≡ withLive s (repairedNodes (planIn s))
+  pub session-ran : ran s nodes .session ≡ afterSteps s (planIn s)
   unfolding ran
   session-ran = rw e
 
   -- the plan's steps can be made
-  plan-makes : length (s .live) ≡ 256 → CanMakeAll (familyOf (s .family)) (s .k) (s .live) (planIn s)
+  pub plan-makes : length (s .live) ≡ 256 → CanMakeAll (familyOf (s .family)) (s .k) (s .live) (planIn s)
   plan-makes size = plan-claim (familyOf (s .family)) (s .k) (run-known .range .blocks) (s .live) size .makes
 
-  pub ran-sized : length (s .live) ≡ 256 → Sized (ran s nodes .session) (length (nodesRan s nodes))
+  run-makes : Arrays s → Makes s nodes (planIn s)
+  run-makes arrays = record { arrays = arrays; buffer = run-sized; all = plan-makes (arrays .marks) }
+
+  pub ran-sized : Arrays s → Sized (ran s nodes .session) (length (nodesRan s nodes))
   unfolding ran nodesRan
-  ran-sized size = rw e (steps-sized s nodes (planIn s) run-sized (plan-makes size))
+  ran-sized arrays =
+      rw e (record { sound = after-sound s arrays (planIn s) (run-sized .sound) (plan-makes (arrays .marks)); size = steps-size s nodes (planIn s) (run-makes arrays) })
 
   pub nodes-ran : nodesRan s nodes ≡ nodesMade (s .len) nodes (planIn s)
   unfolding nodesRan
   nodes-ran = rw e
 
   -- a node that the plan does not repair keeps its block
-  module _ (size : length (s .live) ≡ 256) where
+  module _ (arrays : Arrays s) where
     run-keeps : (j : ℕ) → IsNode (familyOf (s .family)) (s .k) j → Apart j (planIn s) → blockOf (s .len) (nodesRan s nodes) j ≡ blockOf (s .len) nodes j
-    run-keeps j n d = rw nodes-ran (steps-keep s nodes (planIn s) run-sized (plan-makes size) j n d)
+    run-keeps j n d = rw nodes-ran (steps-keep s nodes (planIn s) (run-makes arrays) j n d)
 
     pub run-keeps-left : (j : ℕ) → IsNode (familyOf (s .family)) (s .k) j → isLive (ran s nodes .session .live) j ≡ false
         → blockOf (s .len) (nodesRan s nodes) j ≡ blockOf (s .len) nodes j
     run-keeps-left j n m =
-        run-keeps j n (left-apart (familyOf (s .family)) (s .k) (run-known .range .blocks) (s .live) (planIn s) size (plan-makes size) j (rw session-ran at m))
+        run-keeps j n (left-apart (familyOf (s .family)) (s .k) (run-known .range .blocks) (s .live) (planIn s) (arrays .marks) (plan-makes (arrays .marks)) j (rw session-ran at m))
 
     pub run-keeps-live : (j : ℕ) → IsNode (familyOf (s .family)) (s .k) j → isLive (s .live) j ≡ true
         → blockOf (s .len) (nodesRan s nodes) j ≡ blockOf (s .len) nodes j
-    run-keeps-live j n l = run-keeps j n (live-apart (familyOf (s .family)) (s .k) (s .live) (planIn s) (plan-makes size) j l)
+    run-keeps-live j n l = run-keeps j n (live-apart (familyOf (s .family)) (s .k) (s .live) (planIn s) (plan-makes (arrays .marks)) j l)
 
-  pub run-steps : length (s .live) ≡ 256 → stateAfter called s nodes (map asMove (planIn s)) ≡ record { session = ran s nodes .session; nodes = nodesRan s nodes }
-  run-steps size =
-      steps-state s nodes (planIn s) run-sized (plan-makes size)
+  pub run-steps : Arrays s → stateAfter called s nodes (map asMove (planIn s)) ≡ record { session = ran s nodes .session; nodes = nodesRan s nodes }
+  run-steps arrays =
+      steps-state s nodes (planIn s) (run-makes arrays)
       ∙ rw (session-ran, nodes-ran)
 
 -- ---- a run where no pair is left
@@ -216,7 +227,7 @@ module _ (s : Session) (nodes : List ℕ) (e : firstMet (nodesChecks s (length n
 
   pub quiet-answer : ran s nodes ≡ record { refusal = 0; steps = 0; rounds = 0; left = nodesLeft (s .live) (nodeCountOf s); session = s }
   unfolding ran setLive lastRound getLastD
-  quiet-answer = rw (e, no-plan)
+  quiet-answer = rw (e, no-plan, ← none-made s)
 
   pub quiet-nodes : nodesRan s nodes ≡ nodes
   unfolding nodesRan nodesMade
@@ -224,25 +235,25 @@ module _ (s : Session) (nodes : List ℕ) (e : firstMet (nodesChecks s (length n
 
 -- ---- the session that a call gives back
 
-module _ (s : Session) (starts : noStart s ≡ false) (nodes : List ℕ) where
-  pub stays-stepped : (j a b : ℕ) → noStart (stepped s nodes j a b .session) ≡ false
+module _ (s : Session) (arrays : Arrays s) (sound : unsound s ≡ false) (nodes : List ℕ) where
+  pub stays-stepped : (j a b : ℕ) → unsound (stepped s nodes j a b .session) ≡ false
   unfolding stepped
   stays-stepped j a b = go (eqb (firstMet (stepChecks s nodes j a b)) 0) refl
     where
       made : Step
-      made = record { round = 0; node = j; smaller = a; larger = b }
+      made = namedStep j a b
 
-      go : (met : Bool) → eqb (firstMet (stepChecks s nodes j a b)) 0 ≡ met → noStart (stepped s nodes j a b .session) ≡ false
-      go true e = let w = accepted-step s nodes made (eqb-true _ 0 e) in rw (session-stepped s nodes made w) (start-kept s j (w .makes .node) starts)
-      go false e = rw e starts
+      go : (met : Bool) → eqb (firstMet (stepChecks s nodes j a b)) 0 ≡ met → unsound (stepped s nodes j a b .session) ≡ false
+      go true e = let w = accepted-step s nodes made (eqb-true _ 0 e) in rw (session-stepped s nodes made w) (after-sound s arrays (made ∷ []) sound (w .makes, tt))
+      go false e = rw e sound
 
-  pub stays-ran : length (s .live) ≡ 256 → noStart (ran s nodes .session) ≡ false
+  pub stays-ran : unsound (ran s nodes .session) ≡ false
   unfolding ran
-  stays-ran size = go (eqb (firstMet (nodesChecks s (length nodes))) 0) refl
+  stays-ran = go (eqb (firstMet (nodesChecks s (length nodes))) 0) refl
     where
-      go : (met : Bool) → eqb (firstMet (nodesChecks s (length nodes))) 0 ≡ met → noStart (ran s nodes .session) ≡ false
-      go true e = ran-sized s nodes (eqb-true _ 0 e) size .starts
-      go false e = rw e starts
+      go : (met : Bool) → eqb (firstMet (nodesChecks s (length nodes))) 0 ≡ met → unsound (ran s nodes .session) ≡ false
+      go true e = ran-sized s nodes (eqb-true _ 0 e) arrays .sound
+      go false e = rw e sound
 
 -- a live node stays live
 module _ (s : Session) (nodes : List ℕ) where
@@ -262,9 +273,9 @@ module _ (s : Session) (nodes : List ℕ) where
 -- ---- the object's own blocks
 
 module _ (object : List ℕ) where
-  -- the marks have their length, the object has the session's, and every live block is its own
+  -- the arrays have their length, the object has the session's, and every live block is its own
   pub record Own (s : Session) (nodes : List ℕ) : Type 0 where
-    pub marks : length (s .live) ≡ 256
+    pub arrays : Arrays s
     pub size : length object ≡ s .k * s .len
     pub live : LiveAreOwn object s nodes
 
@@ -274,7 +285,7 @@ module _ (object : List ℕ) where
   own-made : (s : Session) (nodes : List ℕ) (made : Step) → AcceptedStep s nodes made → Own s nodes
       → Own (sessionMade s made) (nodesWith s nodes made)
   unfolding setLive
-  own-made s nodes made w o = record { marks = length-set (s .live) (made .node) true ∙ o .marks; size = o .size; live = λ i n v. go i n v (ℕ-discrete i (made .node)) }
+  own-made s nodes made w o = record { arrays = after-arrays s (o .arrays) (made ∷ []); size = o .size; live = λ i n v. go i n v (ℕ-discrete i (made .node)) }
     where
       own : ℕ → List ℕ
       own i = nodeBlock (s .k) (s .len) object (columnOf (familyOf (s .family)) (s .k) i)
@@ -299,7 +310,7 @@ module _ (object : List ℕ) where
   own-step s nodes j a b o = go (eqb (firstMet (stepChecks s nodes j a b)) 0) refl
     where
       made : Step
-      made = record { round = 0; node = j; smaller = a; larger = b }
+      made = namedStep j a b
 
       go : (met : Bool) → eqb (firstMet (stepChecks s nodes j a b)) 0 ≡ met → Own (stepped s nodes j a b .session) (nodesStepped s nodes j a b)
       go true e = let w = accepted-step s nodes made (eqb-true _ 0 e) in rw (session-stepped s nodes made w, nodes-stepped s nodes made w) (own-made s nodes made w o)
@@ -315,7 +326,7 @@ module _ (object : List ℕ) where
   own-run s nodes o = go (eqb (firstMet (nodesChecks s (length nodes))) 0) refl
     where
       go : (b : Bool) → eqb (firstMet (nodesChecks s (length nodes))) 0 ≡ b → Own (ran s nodes .session) (nodesRan s nodes)
-      go true e = subst OwnState (run-steps s nodes (eqb-true _ 0 e) (o .marks)) (own-steps s nodes (planIn s) o)
+      go true e = subst OwnState (run-steps s nodes (eqb-true _ 0 e) (o .arrays)) (own-steps s nodes (planIn s) o)
       go false e = rw e o
 
   pub own-moves : (s : Session) (nodes : List ℕ) (moves : List Move) → Own s nodes → OwnState (stateAfter called s nodes moves)

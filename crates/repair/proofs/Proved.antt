@@ -1,33 +1,34 @@
 -- The claims of specs/Claims.antt.
 -- Assumes nothing.
 use mathlib.Core.Path.{_≡_, refl, sym, ap, _∙_, subst}
-use mathlib.Core.Bool.{false, not}
-use mathlib.Core.List.{List, [], flatMap}
-use Prim.Native.Nat.{ℕ, suc, _<_}
+use mathlib.Core.Bool.{true, false, not, false≢true}
+use mathlib.Core.List.{List, [], _∷_, flatMap}
+use Prim.Native.Nat.{ℕ, zero, suc, _≤_, _<_}
 use native.Mathlib.Omega.{arith}
 use borrow.Author.Tests.{lt-ltb, le-ltb, eq-eqb, ne-eqb, ltb-true}
 use lib.Dec.{ltb}
-use lib.ListN.{length}
+use lib.ListN.{length, getD}
 use Rattle.families.specs.Families.{familyOf, nodeCount}
 use Rattle.families.proofs.Laws.{few}
 use Rattle.checks.specs.Checks.{firstMet}
 use Rattle.checks.proofs.Laws.{none-zero, parameters-in}
 use Rattle.checks.proofs.AnswerLaws.{answer-refused}
-use Rattle.lists.specs.Lists.{someOutside, rises, placeIn, isIn, noneLive, isLive, setLive, someMissing, liveOutside}
+use Rattle.lists.specs.Lists.{someOutside, rises, placeIn, isIn, isLive, someMissing}
 use Rattle.lists.proofs.PlaceLaws.{place-there, at-is}
-use Rattle.lists.proofs.Laws.{live-of-list, list-outside-none, outside-more}
+use Rattle.lists.proofs.Laws.{live-of-list, outside-more, passes-within, passes-inside}
+use Rattle.counts.specs.Counts.{countOf}
 use Rattle.boxes.specs.Box.{familyIn, kIn, blockLengthIn, namesIn, nodeCountIn, boxChecks}
 use Rattle.boxes.specs.Bodies.{boxOf}
 use Rattle.boxes.proofs.Answers.{by-page, by-tests, by-box, body-empty}
 use Rattle.boxes.proofs.Laws.{accepted-box}
 use Rattle.boxes.proofs.Proved.{order-claim, body-claim, box-of-body-claim}
 use Rattle.repair.specs.declared.Started.{Started}
-use Rattle.repair.specs.Session.{refusedStart, started, nodeCountOf, noStart, nodesChecks}
+use Rattle.repair.specs.Session.{refusedStart, started, nodeCountOf, unsound, nodesChecks}
 use Rattle.repair.specs.Boxed.{checkedBox, readChecks, readBox, writtenLength, writeChecks, written, outWritten}
 use Rattle.repair.specs.LiveNodes.{liveNodesOf}
-use Rattle.repair.specs.Claims.{StartClaim, FromStart, NoStartClaim, StartMarksClaim, WriteReadClaim, EmptyBoxClaim, LiveListClaim, StartListClaim, BoxListClaim, ReadKeepsClaim, WrittenAgain, ReadWriteClaim, ReadBodyClaim, WrittenBodyClaim, BoxStartClaim, RefusedBox, WrongCountClaim, ReadOrderClaim}
+use Rattle.repair.specs.Claims.{Sound, StartClaim, SoundClaim, StartMarksClaim, WriteReadClaim, EmptyBoxClaim, LiveListClaim, StartListClaim, BoxListClaim, ReadKeepsClaim, WrittenAgain, ReadWriteClaim, ReadBodyClaim, WrittenBodyClaim, BoxStartClaim, RefusedBox, WrongCountClaim, ReadOrderClaim}
 use Rattle.repair.proofs.Accepted.{start-accepted, check-accepted, read-accepted, write-accepted, list-accepted}
-use Rattle.repair.proofs.StartLaws.{start-0, no-start-marks, accepted-start}
+use Rattle.repair.proofs.StartLaws.{start-0, accepted-start, known, sound}
 use Rattle.repair.proofs.LiveListLaws.{accepted-list, list-is, list-answer, list-rest, live-starts, start-lists}
 use Rattle.repair.proofs.BoxedLaws.{read-by-box}
 use Rattle.repair.proofs.RoundTripLaws.{accepted-write, box-written, write-answer, write-room, write-rest, box-passes, box-names, box-checked, box-reads, bodies-read, accepted-read, names-are, session-read, read-is, read-keeps, again}
@@ -41,22 +42,45 @@ start-claim family k L list = (
   (λ p. rw (start-0 family k L list (parameters-in family k L (p .0)) (p .1) (p .2))),
 )
 
--- the start is that of the live nodes
-pub no-start-claim : NoStartClaim
-unfolding started
-no-start-claim s size = (from, back)
-  where
-    from : noStart s ≡ false → FromStart s
-    from e = record { list = liveNodesOf s; start-gives = live-starts s size e }
+-- what is not the default stands in the list
+within : {A : Type 0} (list : List A) (d : A) (j : ℕ) → (getD list j d ≡ d → ⊥) → j < length list
+within [] d j h = absurd (h refl)
+within (x ∷ list) d zero h = omega arith
+within (x ∷ list) d (suc j) h = omega (arith, within list d j h)
 
-    back : FromStart s → noStart s ≡ false
-    back f =
-        let e = start-accepted (s .family) (s .k) (s .len) (f .list) (ap (λ (r : Started). r .refusal) (f .start-gives)) in
-        let a = accepted-start (s .family) (s .k) (s .len) (f .list) e in
-        let is : setLive noneLive (f .list) ≡ s .live = ap (λ (r : Started). r .session .live) (rw e at (f .start-gives)) in
-        no-start-marks s (parameters-in (s .family) (s .k) (s .len) (a .range))
-        ∙ ap (liveOutside (nodeCountOf s)) (sym is)
-        ∙ list-outside-none (nodeCountOf s) (f .list) (few (familyOf (s .family)) (s .k) (a .range .blocks)) (a .outside)
+pub sound-claim : SoundClaim
+sound-claim s arrays = (to, back)
+  where
+    n : ℕ
+    n = nodeCountOf s
+
+    live-within : (j : ℕ) → isLive (s .live) j ≡ true → j < 256
+    live-within j t = omega (arith, arrays .marks, within (s .live) false j (λ e. false≢true (sym e ∙ t)))
+
+    read-within : (j : ℕ) → 1 ≤ countOf (s .reads) j → j < 256
+    read-within j t = omega (arith, arrays .counts, within (s .reads) 0 j (λ e. omega arith))
+
+    to : unsound s ≡ false → Sound s
+    to e =
+        let g = known s e in
+        record {
+          range = g .range;
+          live = λ j t. let p = passes-within n (isLive (s .live)) (g .inside) j (live-within j t) t in record { first = p .0; last = p .1 };
+          sum = g .sum;
+          reads = λ j t. let p = passes-within n (λ i. ltb 0 (countOf (s .reads) i)) (g .reads-inside) j (read-within j t) (lt-ltb 0 _ t) in record { first = p .0; last = p .1 };
+          few = g .few;
+        }
+
+    back : Sound s → unsound s ≡ false
+    back g =
+        sound s
+        (record {
+          range = g .range;
+          inside = passes-inside n (isLive (s .live)) (λ i h t. let p = g .live i t in (p .first, p .last));
+          sum = g .sum;
+          reads-inside = passes-inside n (λ i. ltb 0 (countOf (s .reads) i)) (λ i h t. let p = g .reads i (ltb-true 0 _ t) in (p .first, p .last));
+          few = g .few;
+        })
 
 pub box-start-claim : BoxStartClaim
 unfolding checkedBox started
@@ -104,10 +128,10 @@ write-read-claim s nodes list out h =
 
 pub empty-box-claim : EmptyBoxClaim
 unfolding written outWritten writeChecks nodesChecks someOutside rises someMissing boxOf flatMap
-empty-box-claim s nodes out starts size room =
+empty-box-claim s nodes out sound size room =
     let long : writtenLength s [] ≡ 8 = omega arith in
     let none : firstMet (writeChecks s nodes [] out) ≡ 0
-    = none-zero (writeChecks s nodes [] out) (starts, (ap not (eq-eqb _ _ size), (refl, (refl, (refl, (le-ltb (length out) (writtenLength s []) (omega arith), tt)))))) in
+    = none-zero (writeChecks s nodes [] out) (sound, (ap not (eq-eqb _ _ size), (refl, (refl, (refl, (le-ltb (length out) (writtenLength s []) (omega arith), tt)))))) in
     record { answer = rw (none, long); head = rw (none, long) }
 
 -- ---- the live nodes, listed
@@ -121,7 +145,7 @@ live-list-claim s out h =
       answer = list-answer s out e;
       room = omega (arith, ap length (list-is s out e), a .room);
       rest = list-rest s out e;
-      start = λ size. rw (list-is s out e) (live-starts s size (a .starts));
+      start = λ size. rw (list-is s out e) (live-starts s size (a .sound));
     }
 
 pub start-list-claim : StartListClaim

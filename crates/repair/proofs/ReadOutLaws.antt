@@ -15,7 +15,7 @@ use Rattle.checks.proofs.AnswerLaws.{Gives, serves, refuses}
 use Rattle.readout.specs.DataBlocks.{dataBlocks}
 use Rattle.repair.specs.declared.Session.{Session}
 use Rattle.repair.specs.declared.ReadOut.{ReadOut}
-use Rattle.repair.specs.Session.{noStart, nodeCountOf, nodesChecks}
+use Rattle.repair.specs.Session.{unsound, nodeCountOf, nodesChecks}
 use Rattle.repair.specs.ReadOut.{missingIn, readOutChecks, readOut, objectOut}
 use Rattle.repair.proofs.Refused.{refusedOut}
 use Rattle.repair.proofs.StartLaws.{nodes-none}
@@ -42,7 +42,7 @@ module _ (s : Session) (nodes object : List ℕ) where
   unfolding readOutChecks nodesChecks
   by-nodes number e h =
       refused number 0 (e ∙ sym (some-append (nodesChecks s (length nodes)) _ (λ z. h (e ∙ z)))) h
-      (ap (λ (b : Bool). cond b (missingIn s) 0) (ap (λ (x : ℕ). eqb x 14) e ∙ not-14 (noStart s) (not (eqb (length nodes) (nodeCountOf s * s .len)))))
+      (ap (λ (b : Bool). cond b (missingIn s) 0) (ap (λ (x : ℕ). eqb x 14) e ∙ not-14 (unsound s) (not (eqb (length nodes) (nodeCountOf s * s .len)))))
 
   module _ (e : firstMet (nodesChecks s (length nodes)) ≡ 0) where
     pub by-object : (length object ≡ s .k * s .len → ⊥) → Reads (record { refusal = 6; block = 0; session = s }) object

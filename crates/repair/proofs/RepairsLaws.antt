@@ -13,7 +13,8 @@ use Rattle.families.specs.Families.{familyOf, KInRange, nodeCount}
 use Rattle.families.proofs.Laws.{few}
 use Rattle.checks.specs.Checks.{firstMet}
 use Rattle.checks.proofs.AnswerLaws.{Gives, serves, refuses}
-use Rattle.planning.specs.Plan.{planOf, repairedNodes, stepBytes}
+use Rattle.counts.specs.Counts.{countAll}
+use Rattle.planning.specs.Plan.{planOf, sourcesOf, stepBytes}
 use Rattle.planning.specs.Inner.{plannedOf, AllIn}
 use Rattle.planning.specs.Made.{nodesMade, stepsIn}
 use Rattle.planning.specs.declared.Planned.{Planned}
@@ -23,8 +24,8 @@ use Rattle.planning.proofs.MakeLaws.{left-few}
 use Rattle.planning.proofs.Proved.{plan-claim}
 use Rattle.repair.specs.declared.Session.{Session}
 use Rattle.repair.specs.declared.Repairs.{Repairs}
-use Rattle.repair.specs.Session.{sessionWith, nodeCountOf, noStart, nodesChecks}
-use Rattle.repair.specs.Step.{withLive}
+use Rattle.repair.specs.Session.{nodeCountOf, unsound, nodesChecks}
+use Rattle.repair.specs.Step.{afterSteps}
 use Rattle.repair.specs.Repairs.{planIn, repairsOf, refusedRepairs, planChecks, planned, outPlanned, ran, nodesRan}
 
 -- a plan has at most a step for each node
@@ -43,11 +44,11 @@ module _ (s : Session) where
     unfolding planned outPlanned
     plan-refused = refuses (planChecks s out) _ (refusedRepairs s) _ out
 
-    pub plan-13 : noStart s ≡ true → Plans (refusedRepairs s 13) out
+    pub plan-13 : unsound s ≡ true → Plans (refusedRepairs s 13) out
     unfolding planChecks firstMet
     plan-13 e = plan-refused 13 (rw e) (λ z. omega arith)
 
-    module _ (e : noStart s ≡ false) where
+    module _ (e : unsound s ≡ false) where
       pub plan-6 : length out < 4 * length (planIn s) → Plans (refusedRepairs s 6) out
       unfolding planChecks firstMet
       plan-6 h = plan-refused 6 (rw (e, lt-ltb (length out) (4 * length (planIn s)) h)) (λ z. omega arith)
@@ -67,7 +68,7 @@ module _ (s : Session) where
     unfolding ran nodesRan
     run-refused = refuses (nodesChecks s (length nodes)) _ (refusedRepairs s) _ nodes
 
-    pub run-made : firstMet (nodesChecks s (length nodes)) ≡ 0 → Runs (repairsOf s (withLive s (repairedNodes (planIn s)))) (nodesMade (s .len) nodes (planIn s))
+    pub run-made : firstMet (nodesChecks s (length nodes)) ≡ 0 → Runs (repairsOf s (afterSteps s (planIn s))) (nodesMade (s .len) nodes (planIn s))
     unfolding ran nodesRan
     run-made = serves (nodesChecks s (length nodes)) _ (refusedRepairs s) _ nodes
 
@@ -80,11 +81,6 @@ module _ (s : Session) (made : Planned) (is : made ≡ plannedOf (familyOf (s .f
   pub made-answer : (next : Session) → record { refusal = 0; steps = made .steps; rounds = made .rounds; left = made .left; session = next } ≡ repairsOf s next
   made-answer next = rw is
 
-  -- with the session that a run hands back
-  pub made-ran : record { refusal = 0; steps = made .steps; rounds = made .rounds; left = made .left; session = sessionWith (s .family) (s .k) (s .len) (made .live) }
-      ≡ repairsOf s (withLive s (repairedNodes (planIn s)))
-  made-ran = rw is
-
   pub made-few : KInRange (familyOf (s .family)) (s .k) → length (s .live) ≡ 256 → made .steps ≤ 255
   made-few range size = omega (arith, made-steps, plan-few (familyOf (s .family)) (s .k) range (s .live) size, few (familyOf (s .family)) (s .k) range)
 
@@ -96,6 +92,12 @@ module _ (s : Session) (made : Planned) (is : made ≡ plannedOf (familyOf (s .f
     -- its steps, read back
     pub made-back : stepsIn bytes (made .steps) ≡ planIn s
     made-back = rw (holds, made-steps) (steps-back (planIn s) after)
+
+    -- what comes to it, with the session that a run hands back
+    pub made-ran : (reads : List ℕ) → reads ≡ countAll (s .reads) (sourcesOf (stepsIn bytes (made .steps)))
+        → record { refusal = 0; steps = made .steps; rounds = made .rounds; left = made .left; session = record { family = s .family; k = s .k; len = s .len; steps = s .steps + made .steps; live = made .live; reads = reads } }
+        ≡ repairsOf s (afterSteps s (planIn s))
+    made-ran reads e = rw (e, made-back, is)
 
     pub made-in : KInRange (familyOf (s .family)) (s .k) → length (s .live) ≡ 256 → (nodes : List ℕ) → length nodes ≡ nodeCountOf s * s .len
         → AllIn (s .len) nodes (stepsIn bytes (made .steps))

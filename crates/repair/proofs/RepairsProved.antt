@@ -1,6 +1,6 @@
 -- The claims of specs/RepairClaims.antt.
 -- Assumes nothing.
-use mathlib.Core.Path.{_≡_, sym, _∙_, subst}
+use mathlib.Core.Path.{_≡_, sym, ap, _∙_, subst}
 use mathlib.Core.List.{List}
 use Prim.Native.Nat.{ℕ, _*_}
 use lib.ListN.{length, drop}
@@ -9,34 +9,35 @@ use Rattle.checks.specs.Checks.{firstMet}
 use Rattle.lists.specs.Lists.{isLive}
 use Rattle.lists.proofs.Laws.{length-setLive}
 use Rattle.planning.specs.Pairs.{NoPairLeft}
-use Rattle.planning.specs.Plan.{Step, repairedNodes, nodesLeft}
+use Rattle.planning.specs.Plan.{Step, repairedNodes, marksAfter, nodesLeft}
 use Rattle.planning.proofs.CarryLaws.{steps-back}
 use Rattle.planning.proofs.Proved.{plan-claim}
 use Rattle.repair.specs.declared.Session.{Session}
-use Rattle.repair.specs.Session.{nodeCountOf, nodesChecks}
-use Rattle.repair.specs.Step.{stepped}
+use Rattle.repair.specs.Session.{afresh, Arrays, nodeCountOf, nodesChecks}
+use Rattle.repair.specs.Step.{afterSteps, namedStep, stepped}
 use Rattle.repair.specs.Repairs.{planIn, planned, outPlanned, ran}
 use Rattle.repair.specs.Calls.{step, run, called, stateAfter}
+use Rattle.repair.specs.WholeWay.{SameCode}
 use Rattle.repair.specs.RepairClaims.{StepClaim, StaysClaim, LiveStaysClaim, PlanWritesClaim, RunClaims, RunClaim, OwnClaim}
 use Rattle.repair.proofs.Accepted.{read-out-accepted, step-passed, plan-accepted, run-accepted}
 use Rattle.repair.proofs.StartLaws.{nodes-0}
 use Rattle.repair.proofs.StepLaws.{accepted-step, step-accepted}
 use Rattle.repair.proofs.CallLaws.{ran-left}
-use Rattle.repair.proofs.OwnLaws.{stays-stepped, stays-ran, stepped-keeps, ran-keeps, run-known, session-ran, ran-sized, run-steps, run-keeps-left, run-keeps-live, quiet-answer, quiet-nodes, OwnState, own-moves, own-out}
+use Rattle.repair.proofs.OwnLaws.{stays-stepped, stays-ran, stepped-keeps, ran-keeps, run-known, session-ran, run-steps, run-keeps-left, run-keeps-live, quiet-answer, quiet-nodes, OwnState, own-moves, own-out}
 
 pub step-claim : StepClaim
 unfolding stepped
 step-claim s nodes j a b = (
-  (λ h. let w = accepted-step s nodes made (step-passed s nodes j a b h) in (w .buffer .starts, w .buffer .size, w .makes)),
-  (λ p. rw (step-accepted s nodes made (record { buffer = record { starts = p .0; size = p .1 }; makes = p .2 }))),
+  (λ h. let w = accepted-step s nodes made (step-passed s nodes j a b h) in (w .buffer .sound, w .buffer .size, w .makes)),
+  (λ p. rw (step-accepted s nodes made (record { buffer = record { sound = p .0; size = p .1 }; makes = p .2 }))),
 )
   where
     made : Step
-    made = record { round = 0; node = j; smaller = a; larger = b }
+    made = namedStep j a b
 
 pub stays-claim : StaysClaim
-stays-claim s size starts nodes (step j a b) = stays-stepped s starts nodes j a b
-stays-claim s size starts nodes run = stays-ran s starts nodes size
+stays-claim s arrays sound nodes (step j a b) = stays-stepped s arrays sound nodes j a b
+stays-claim s arrays sound nodes run = stays-ran s arrays sound nodes
 
 pub live-stays : LiveStaysClaim
 live-stays s nodes (step j a b) i l = stepped-keeps s nodes j a b i l
@@ -46,29 +47,31 @@ pub plan-writes : PlanWritesClaim
 unfolding planned outPlanned
 plan-writes s out h = let e = plan-accepted s out h in rw e (steps-back (planIn s) (drop (4 * length (planIn s)) out))
 
-module _ (s : Session) (size : length (s .live) ≡ 256) (nodes : List ℕ) (h : ran s nodes .refusal ≡ 0) where
+module _ (s : Session) (arrays : Arrays s) (nodes : List ℕ) (h : ran s nodes .refusal ≡ 0) where
   abbrev passed : firstMet (nodesChecks s (length nodes)) ≡ 0
   passed = run-accepted s nodes h
 
   ends : NoPairLeft (familyOf (s .family)) (s .k) (isLive (ran s nodes .session .live))
   ends =
       subst (λ (after : Session). NoPairLeft (familyOf (s .family)) (s .k) (isLive (after .live))) (sym (session-ran s nodes passed))
-      (plan-claim (familyOf (s .family)) (s .k) (run-known s nodes passed .range .blocks) (s .live) size .ends)
+      (plan-claim (familyOf (s .family)) (s .k) (run-known s nodes passed .range .blocks) (s .live) (arrays .marks) .ends)
 
   run-claims : RunClaims s nodes
   run-claims =
       record {
-        steps = run-steps s nodes passed size;
+        steps = run-steps s nodes passed arrays;
         ends = ends;
-        left-kept = run-keeps-left s nodes passed size;
-        live-kept = run-keeps-live s nodes passed size;
-        again = λ other l.
-            let next = ran s nodes .session in
-            let is = session-ran s nodes passed in
-            let marks : length (next .live) ≡ 256 = rw is (length-setLive (s .live) (repairedNodes (planIn s)) ∙ size) in
-            let again : firstMet (nodesChecks next (length other)) ≡ 0 = nodes-0 next (length other) (ran-sized s nodes passed size .starts) (rw is l) in
-            let done : NoPairLeft (familyOf (next .family)) (next .k) (isLive (next .live)) = rw is (rw is at ends) in
-            let left : ran s nodes .left ≡ nodesLeft (next .live) (nodeCountOf next) = rw is (ran-left s nodes h) in
+        left-kept = run-keeps-left s nodes passed arrays;
+        live-kept = run-keeps-live s nodes passed arrays;
+        again = λ next other same sound l.
+            let is = ap afresh (session-ran s nodes passed) in
+            let alike : afresh next ≡ afresh (afterSteps s (planIn s)) = same ∙ is in
+            let code : SameCode s next = record { family = ap (λ (t : Session). t .family) alike; k = ap (λ (t : Session). t .k) alike; len = ap (λ (t : Session). t .len) alike } in
+            let live : next .live ≡ marksAfter (s .live) (planIn s) = ap (λ (t : Session). t .live) alike in
+            let marks : length (next .live) ≡ 256 = rw live (length-setLive (s .live) (repairedNodes (planIn s)) ∙ arrays .marks) in
+            let again : firstMet (nodesChecks next (length other)) ≡ 0 = nodes-0 next (length other) sound (rw (code .family, code .k, code .len) l) in
+            let done : NoPairLeft (familyOf (next .family)) (next .k) (isLive (next .live)) = rw (code .family, code .k, live) (rw (session-ran s nodes passed) at ends) in
+            let left : ran s nodes .left ≡ nodesLeft (next .live) (nodeCountOf next) = rw (code .family, code .k, live) (ran-left s nodes h) in
             record { answer = quiet-answer next other again marks done ∙ rw left; nodes-are = quiet-nodes next other again marks done };
       }
 
@@ -76,7 +79,7 @@ pub run-claim : RunClaim
 run-claim = run-claims
 
 pub own-claim : OwnClaim
-own-claim object s nodes marks size live moves =
+own-claim object s nodes arrays size live moves =
     let state = stateAfter called s nodes moves in
-    let o : OwnState object state = own-moves object s nodes moves (record { marks = marks; size = size; live = live }) in
+    let o : OwnState object state = own-moves object s nodes moves (record { arrays = arrays; size = size; live = live }) in
     record { live = o .live; out = λ result e. own-out object (state .session) (state .nodes) result o (read-out-accepted (state .session) (state .nodes) result e) }

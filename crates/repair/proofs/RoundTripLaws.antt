@@ -13,10 +13,10 @@ use Rattle.families.specs.Families.{familyOf}
 use Rattle.families.proofs.Laws.{few}
 use Rattle.checks.specs.Checks.{Check, _gives_, firstMet}
 use Rattle.checks.specs.Claims.{InRange}
-use Rattle.checks.proofs.Laws.{accepted, none-zero, none-append, parameters-in}
+use Rattle.checks.proofs.Laws.{accepted, none-zero, none-append}
 use Rattle.blocks.specs.Blocks.{blockOf}
 use Rattle.lists.specs.Lists.{someOutside, rises, someMissing}
-use Rattle.lists.proofs.Laws.{live-nodes-of-list, live-nodes-live, list-outside-none, rising-few}
+use Rattle.lists.proofs.Laws.{live-nodes-of-list, live-nodes-live, rising-few}
 use Rattle.boxes.specs.Box.{familyIn, kIn, blockLengthIn, namesIn, bodiesIn, nodeCountIn, boxChecks}
 use Rattle.boxes.specs.Bodies.{boxOf, withBodies}
 use Rattle.boxes.specs.Inner.{ListIn}
@@ -24,11 +24,11 @@ use Rattle.boxes.specs.Claims.{AcceptedBox}
 use Rattle.boxes.proofs.Answers.{box-none}
 use Rattle.boxes.proofs.Laws.{accepted-box, box-accepted, FieldsOf, fields-of, box-of-fields, length-boxOf, length-withBodies, bodies-there, bodies-same, bodies-other, list-in}
 use Rattle.repair.specs.declared.Session.{Session}
-use Rattle.repair.specs.Session.{sessionOf, nodeCountOf, noStart, nodesChecks}
+use Rattle.repair.specs.Session.{sessionOf, nodeCountOf, unsound, nodesChecks}
 use Rattle.repair.specs.Boxed.{sessionIn, checkedBox, readChecks, readBox, nodesRead, writtenLength, writeChecks, written, outWritten}
 use Rattle.repair.specs.LiveNodes.{liveNodesOf}
 use Rattle.repair.specs.Claims.{boxWritten, WrittenAgain}
-use Rattle.repair.proofs.StartLaws.{known, no-start-marks}
+use Rattle.repair.proofs.StartLaws.{known, start-sound}
 
 -- ---- the nodes that are written
 
@@ -40,7 +40,7 @@ pub record Good (n : ℕ) (list : List ℕ) : Type 0 where
 -- what an accepted write says
 pub record AcceptedWrite (s : Session) (nodes list out : List ℕ) : Type 0 where
   pub range : InRange (s .family) (s .k) (s .len)
-  pub starts : noStart s ≡ false
+  pub sound : unsound s ≡ false
   pub size : length nodes ≡ nodeCountOf s * s .len
   pub good : Good (nodeCountOf s) list
   pub live : someMissing (s .live) list ≡ false
@@ -52,7 +52,7 @@ accepted-write s nodes list out e =
     let n = accepted (writeChecks s nodes list out) refl e in
     record {
       range = known s (n .0) .range;
-      starts = n .0;
+      sound = n .0;
       size = eqb-true (length nodes) (nodeCountOf s * s .len) (not-false _ (n .1 .0));
       good = record { outside = n .1 .1 .0; rising = not-false (rises list) (n .1 .1 .1 .0) };
       live = n .1 .1 .1 .1 .0;
@@ -168,11 +168,9 @@ module _ (bytes : List ℕ) (a : AcceptedBox bytes) where
   names-live : someMissing (sessionIn bytes .live) (namesIn bytes) ≡ false
   names-live = rw names-are at (live-nodes-live (sessionIn bytes .live) (nodeCountIn bytes))
 
-  -- some start gives that session
-  pub box-starts : noStart (sessionIn bytes) ≡ false
-  box-starts =
-      no-start-marks (sessionIn bytes) (parameters-in (familyIn bytes) (kIn bytes) (blockLengthIn bytes) (a .range))
-      ∙ list-outside-none (nodeCountIn bytes) (namesIn bytes) few-nodes (a .nodes)
+  -- that session can stand
+  pub box-sound : unsound (sessionIn bytes) ≡ false
+  box-sound = start-sound (familyIn bytes) (kIn bytes) (blockLengthIn bytes) (namesIn bytes) (a .range) (a .nodes)
 
 -- ---- and written again
 
@@ -219,7 +217,7 @@ module _ (bytes nodes : List ℕ) (e : firstMet (readChecks bytes nodes) ≡ 0) 
         let long : writtenLength s list ≡ length bytes = rw (passed .names-size) (sym (passed .size)) in
         let none : firstMet (writeChecks s (nodesRead bytes nodes) list out) ≡ 0
         = none-zero (writeChecks s (nodesRead bytes nodes) list out)
-        (box-starts bytes passed, (ap not (eq-eqb _ _ read-size), (passed .nodes, (ap not (passed .rising), (names-live bytes passed, (le-ltb (length out) (writtenLength s list) (omega arith), tt)))))) in
+        (box-sound bytes passed, (ap not (eq-eqb _ _ read-size), (passed .nodes, (ap not (passed .rising), (names-live bytes passed, (le-ltb (length out) (writtenLength s list) (omega arith), tt)))))) in
         let rest : outWritten s (nodesRead bytes nodes) list out ≡ bytes ++ drop (length bytes) out = rw (none, long, box-again) in
         let box = ap₂ (λ (n : ℕ) (x : List ℕ). take n x) long rest ∙ take-at bytes (drop (length bytes) out) (length bytes) refl in
         record { answer = rw (session-read, none, long); rest = rw session-read rest; box = rw session-read box }

@@ -24,7 +24,7 @@ use Rattle.planning.proofs.CarryLaws.{step-in}
 use Rattle.repair.specs.declared.Session.{Session}
 use Rattle.repair.specs.declared.Stepped.{Stepped}
 use Rattle.repair.specs.Session.{nodeCountOf, nodesChecks}
-use Rattle.repair.specs.Step.{stepChecks, withLive, stepped, nodesStepped}
+use Rattle.repair.specs.Step.{stepChecks, afterSteps, namedStep, stepped, nodesStepped}
 use Rattle.repair.proofs.Refused.{refusedStep}
 use Rattle.repair.proofs.StartLaws.{known, nodes-none, Sized}
 
@@ -58,7 +58,7 @@ module _ (s : Session) (nodes : List ℕ) (j a b : ℕ) where
   unfolding stepped nodesStepped
   step-refused = refuses (stepChecks s nodes j a b) _ (refusedStep s) _ nodes
 
-  pub step-made : firstMet (stepChecks s nodes j a b) ≡ 0 → Steps (record { refusal = 0; session = withLive s (j ∷ []) }) (mended (s .len) nodes j a b)
+  pub step-made : firstMet (stepChecks s nodes j a b) ≡ 0 → Steps (record { refusal = 0; session = afterSteps s (namedStep j a b ∷ []) }) (mended (s .len) nodes j a b)
   unfolding stepped nodesStepped
   step-made = serves (stepChecks s nodes j a b) _ (refusedStep s) _ nodes
 
@@ -84,7 +84,7 @@ module _ (s : Session) (nodes : List ℕ) (made : Step) where
       let b = inside 2 (omega arith) in
       let both = or-neither (not (isLive (s .live) (made .smaller))) _ (n .1 .1 .1 .1 .1 .0) in
       record {
-        buffer = record { starts = n .0; size = eqb-true _ _ (not-false _ (n .1 .0)) };
+        buffer = record { sound = n .0; size = eqb-true _ _ (not-false _ (n .1 .0)) };
         makes =
             record {
               node = record { first = j .0; last = j .1 };
@@ -105,7 +105,7 @@ module _ (s : Session) (nodes : List ℕ) (made : Step) where
         let m = w .makes in
         let n : ℕ = nodeCountOf s in
         none-zero checksOf (
-          w .buffer .starts,
+          w .buffer .sound,
           (
             ap not (eq-eqb (length nodes) (n * s .len) (w .buffer .size)),
             (
@@ -116,7 +116,7 @@ module _ (s : Session) (nodes : List ℕ) (made : Step) where
         )
 
     pub step-range : KInRange (familyOf (s .family)) (s .k)
-    step-range = known s (w .buffer .starts) .range .blocks
+    step-range = known s (w .buffer .sound) .range .blocks
 
     -- the three blocks lie in the nodes buffer, the one to repair apart from the two others
     pub step-blocks : StepIn (s .len) nodes made

@@ -19,28 +19,31 @@ use Rattle.checks.specs.Checks.{firstMet}
 use Rattle.encoding.specs.Encode.{encodeAnswer, encoded}
 use Rattle.encoding.proofs.Answers.{accepted-call, written as encoded-is}
 use Rattle.encoding.proofs.Nodes.{buffer-block}
-use Rattle.lists.specs.Lists.{noneLive, isLive, someMissing, isIn}
-use Rattle.lists.proofs.Laws.{length-setLive, outside-none}
+use Rattle.lists.specs.Lists.{isLive, someMissing, isIn}
+use Rattle.lists.proofs.Laws.{outside-none}
 use Rattle.boxes.specs.Box.{familyIn, kIn, blockLengthIn, namesIn, nodeCountIn, boxChecks}
 use Rattle.boxes.proofs.Laws.{FieldsOf, fields-of}
 use Rattle.planning.specs.Pairs.{NoPairLeft}
+use Rattle.planning.specs.Plan.{Step}
 use Rattle.leftover.specs.Open.{Open}
 use Rattle.readout.specs.DataBlocks.{dataNode, missingBlock}
 use Rattle.readout.proofs.Laws.{data-node}
 use Rattle.repair.specs.declared.Session.{Session}
 use Rattle.repair.specs.declared.Started.{Started}
 use Rattle.repair.specs.declared.ReadOut.{ReadOut}
-use Rattle.repair.specs.Session.{sessionOf, acceptedStart, started, nodeCountOf, nodesChecks}
+use Rattle.repair.specs.Session.{Arrays, sessionOf, acceptedStart, started, nodeCountOf, nodesChecks}
+use Rattle.repair.specs.Step.{afterSteps}
 use Rattle.repair.specs.Boxed.{checkedBox, readChecks, readBox, nodesRead, writeChecks, written}
 use Rattle.repair.specs.ReadOut.{missingIn, readOut, objectOut}
 use Rattle.repair.specs.Repairs.{ran, nodesRan}
-use Rattle.repair.specs.Calls.{Move, run, State, called, Call, sessionAfterAll, liveAfter, stateAfter}
+use Rattle.repair.specs.Calls.{Move, run, State, called, Call, sessionAfterAll, madeAfter, liveAfter, stateAfter}
 use Rattle.repair.specs.LeftOver.{lastSession, LeftOver}
 use Rattle.repair.specs.Claims.{boxWritten, listLeft}
 use Rattle.repair.specs.RepairClaims.{LiveAreOwn, OwnClaims}
 use Rattle.repair.specs.WholeWay.{Fits, FitsClaim, WriteLiveClaim, BodiesAreOwn, OwnBoxClaim, MissingOpenClaim, LowestOpen, NoneOpen, OutWhereOpen, OutWhereLiveClaim, OutAfterRunClaim, Way, startOf, nodesEncoded, boxAway, stateAt, OnTheWay, WholeWayClaim}
 use Rattle.repair.proofs.Accepted.{start-accepted, check-accepted, read-accepted, write-accepted, run-accepted}
-use Rattle.repair.proofs.StartLaws.{known, nodes-0}
+use Rattle.repair.proofs.StartLaws.{known, nodes-0, start-arrays}
+use Rattle.repair.proofs.AfterLaws.{after-arrays}
 use Rattle.repair.proofs.ReadOutLaws.{by-block, accepted-out, read}
 use Rattle.repair.proofs.RoundTripLaws.{accepted-write, box-written, box-checked, accepted-read, session-read}
 use Rattle.repair.proofs.Proved.{live-list-claim, read-body-claim, written-body-claim, box-start-claim}
@@ -70,7 +73,7 @@ fits-claim =
       write = λ s nodes room out f. fits-write s nodes room f out;
     }
 
--- a start by the list gives the session that it was listed from
+-- a start by the list gives the session that it was listed from, as it was before any step
 pub write-live-claim : WriteLiveClaim
 write-live-claim s nodes room out size l h =
     let list = listLeft s room in
@@ -154,11 +157,13 @@ module _ (family k L : ℕ) (list : List ℕ) (h : started family k L list .refu
   last-is : lastSession family k L list all ≡ ran (lastSession family k L list calls) nodes .session
   last-is = one-more (started family k L list .session) calls (record { nodes = nodes; move = run })
 
-  pub ran-is : ran (lastSession family k L list calls) nodes .session ≡ sessionOf family k L now
+  pub ran-is : ran (lastSession family k L list calls) nodes .session ≡ afterSteps (sessionOf family k L list) (madeAfter family k L list all)
   ran-is = sym last-is ∙ session-is family k L list start all
 
-  ends : (s : Session) (live : List ℕ) → s ≡ sessionOf family k L live → ran s nodes .refusal ≡ 0 → NoPairLeft f k (isLive (ran s nodes .session .live))
-  ends s live is a = rw is (run-claim (sessionOf family k L live) (length-setLive noneLive live) nodes (rw is at a) .ends)
+  ends : (s : Session) (made : List Step) → s ≡ afterSteps (sessionOf family k L list) made → ran s nodes .refusal ≡ 0 → NoPairLeft f k (isLive (ran s nodes .session .live))
+  ends s made is a =
+      let begins = sessionOf family k L list in
+      rw is (run-claim (afterSteps begins made) (after-arrays begins (start-arrays family k L list) made) nodes (rw is at a) .ends)
 
   -- so no pair is left after them, and demand 3 says which nodes are missing
   module _ (M : ℕ) (some : 1 ≤ M) where
@@ -170,7 +175,7 @@ module _ (family k L : ℕ) (list : List ℕ) (h : started family k L list .refu
 
     pub missing-open : (j : ℕ) → IsNode f k j → (isLive (ran (lastSession family k L list calls) nodes .session .live) j ≡ false) ↔ Open f k M list j
     missing-open j n =
-        let quiet = ends (lastSession family k L list calls) (liveAfter family k L list calls) (session-is family k L list start calls) e in
+        let quiet = ends (lastSession family k L list calls) (madeAfter family k L list calls) (session-is family k L list start calls) e in
         let both = over .missing-open (λ j a b nj na nb mj la lb r. quiet j a b nj na nb (marks j nj ∙ mj) (marks a na ∙ la) (marks b nb ∙ lb) r) j n in
         ((λ m. both .0 (sym (marks j n) ∙ m)), (λ o. marks j n ∙ both .1 o))
 
@@ -192,7 +197,7 @@ module _ (s : Session) (nodes result : List ℕ) (fits : Fits s nodes) (size : l
   is-missing = refl
 
   accepts : firstMet (nodesChecks s (length nodes)) ≡ 0
-  accepts = nodes-0 s (length nodes) (fits .starts) (fits .size)
+  accepts = nodes-0 s (length nodes) (fits .sound) (fits .size)
 
   -- what read out gives, by the lowest missing block
   none-missing : missingIn s ≡ 0 → readOut s nodes result ≡ record { refusal = 0; block = 0; session = s }
@@ -235,7 +240,7 @@ module _ (s : Session) (nodes result : List ℕ) (fits : Fits s nodes) (size : l
   module _ (list : List ℕ) (M : ℕ) (missing : (j : ℕ) → IsNode (familyOf (s .family)) (s .k) j → (isLive (s .live) j ≡ false) ↔ Open (familyOf (s .family)) (s .k) M list j) where
     module _ (i : ℕ) (l : 1 ≤ i) (h : i ≤ s .k) where
       node : IsNode code (s .k) (dataNode code (s .k) i)
-      node = data-node code (s .k) i (known s (fits .starts) .range .blocks) l h .is-node
+      node = data-node code (s .k) i (known s (fits .sound) .range .blocks) l h .is-node
 
       gone-open : gone i ≡ true → Open code (s .k) M list (dataNode code (s .k) i)
       gone-open g = missing _ node .0 (not-true _ g)
@@ -288,11 +293,14 @@ out-where-live-claim s nodes result fits size = out-where-live s nodes result fi
 pub out-after-run-claim : OutAfterRunClaim
 out-after-run-claim family k L list h calls nodes e other result size room M some =
     let is = ran-is family k L list h calls nodes e in
-    let s = sessionOf family k L (liveAfter family k L list (calls ++ (record { nodes = nodes; move = run } ∷ []))) in
+    let begins = sessionOf family k L list in
+    let arrays = start-arrays family k L list in
+    let made = madeAfter family k L list (calls ++ (record { nodes = nodes; move = run } ∷ [])) in
+    let s = afterSteps begins made in
     let before = session-is family k L list (from-start family k L list (start-accepted family k L list h)) calls in
-    let marks : length (lastSession family k L list calls .live) ≡ 256 = rw before (length-setLive noneLive (liveAfter family k L list calls)) in
-    let starts = ran-sized (lastSession family k L list calls) nodes (run-accepted (lastSession family k L list calls) nodes e) marks .starts in
-    let fits : Fits s other = record { marks = length-setLive noneLive _; starts = rw is at starts; size = size } in
+    let last : Arrays (lastSession family k L list calls) = rw before (after-arrays begins arrays (madeAfter family k L list calls)) in
+    let sound = ran-sized (lastSession family k L list calls) nodes (run-accepted (lastSession family k L list calls) nodes e) last .sound in
+    let fits : Fits s other = record { arrays = after-arrays begins arrays made; sound = rw is at sound; size = size } in
     rw is (out-where-open s other result fits room list M (λ j n. rw is at (missing-open family k L list h calls nodes e M some j n)))
 
 -- ---- the whole way
@@ -329,8 +337,8 @@ module _ (bytes nodes : List ℕ) (e : firstMet (readChecks bytes nodes) ≡ 0) 
   abbrev from-box : Started
   from-box = started (familyIn bytes) (kIn bytes) (blockLengthIn bytes) (namesIn bytes)
 
-  starts : from-box .refusal ≡ 0
-  starts = ap (λ (r : Started). r .refusal) (sym (box-start-claim bytes (checks bytes passes) .start)) ∙ checks bytes passes
+  sound : from-box .refusal ≡ 0
+  sound = ap (λ (r : Started). r .refusal) (sym (box-start-claim bytes (checks bytes passes) .start)) ∙ checks bytes passes
 
   session-from : readBox bytes nodes .session ≡ from-box .session
   session-from =
@@ -356,14 +364,14 @@ module _ (bytes nodes : List ℕ) (e : firstMet (readChecks bytes nodes) ≡ 0) 
     -- what the run leaves has the box's n × L bytes
     ran-size : length (nodesRan (state .session) (state .nodes)) ≡ nodeCountIn bytes * blockLengthIn bytes
     ran-size =
-        let is = ran-is (familyIn bytes) (kIn bytes) (blockLengthIn bytes) (namesIn bytes) starts calls (state .nodes) (rw state-is at read-runs) in
+        let is = ran-is (familyIn bytes) (kIn bytes) (blockLengthIn bytes) (namesIn bytes) sound calls (state .nodes) (rw state-is at read-runs) in
         fits-call (state .session) (state .nodes) fits run .size
         ∙ ap (λ (s : Session). nodeCountOf s * s .len) (ap (λ (s : Session). ran s (state .nodes) .session) state-is ∙ is)
 
     pub read-back : (result : List ℕ) → length result ≡ kIn bytes * blockLengthIn bytes → (M : ℕ) → 1 ≤ M
         → OutWhereOpen (ran (state .session) (state .nodes) .session) (nodesRan (state .session) (state .nodes)) result (namesIn bytes) M
     read-back result size M some =
-        let out = out-after-run-claim (familyIn bytes) (kIn bytes) (blockLengthIn bytes) (namesIn bytes) starts calls (state .nodes) (rw state-is at read-runs) (nodesRan (state .session) (state .nodes)) result ran-size size M some in
+        let out = out-after-run-claim (familyIn bytes) (kIn bytes) (blockLengthIn bytes) (namesIn bytes) sound calls (state .nodes) (rw state-is at read-runs) (nodesRan (state .session) (state .nodes)) result ran-size size M some in
         rw (sym state-is) at out
 
 module _ (way : Way) (on : OnTheWay way) (moves : List Move) where
@@ -401,7 +409,7 @@ module _ (way : Way) (on : OnTheWay way) (moves : List Move) where
   own =
       let c = own-box-claim in
       let is = session-read box (way .other) reads in
-      own-claim (way .object) read-session read-nodes (read-fits box (way .other) reads .marks)
+      own-claim (way .object) read-session read-nodes (read-fits box (way .other) reads .arrays)
       (rw is (accepted-call (way .family) (way .k) (way .len) (way .object) (way .nodes) (on .encode) .first ∙ sym object-is))
       (c .read (way .object) box (way .other)
       (c .write (way .object) (startOf way .session) (nodesEncoded way) (way .list) (way .out)

@@ -2,12 +2,15 @@
 use Prim.Native.Nat.{ℕ}
 use mathlib.Core.List.{List, [], _∷_, _++_}
 use lib.ListN.{length}
-use Rattle.checks.specs.Checks.{afterwards}
-use Rattle.planning.specs.Plan.{repairedNodes}
+use Rattle.families.specs.declared.Family.{Family}
+use Rattle.families.specs.Families.{familyOf}
+use Rattle.checks.specs.Checks.{answer}
+use Rattle.lists.specs.Lists.{noneLive, setLive}
+use Rattle.planning.specs.Plan.{Step, planOf, repairedNodes}
 use Rattle.repair.specs.declared.Session.{Session}
-use Rattle.repair.specs.Session.{sessionOf, nodesChecks}
-use Rattle.repair.specs.Step.{stepChecks, stepped, nodesStepped}
-use Rattle.repair.specs.Repairs.{planIn, ran, nodesRan}
+use Rattle.repair.specs.Session.{started, nodesChecks}
+use Rattle.repair.specs.Step.{stepChecks, namedStep, stepped, nodesStepped}
+use Rattle.repair.specs.Repairs.{ran, nodesRan}
 
 -- a step, with the node to repair and two others, or a run; any numbers
 pub data Move : Type 0 where
@@ -36,16 +39,26 @@ unfoldable pub sessionAfterAll : {S : Type 0} → (S → List ℕ → Move → S
 sessionAfterAll one s [] = s
 sessionAfterAll one s (call ∷ calls) = sessionAfterAll one (one s (call .nodes) (call .move) .session) calls
 
--- the nodes that a call adds: none where it is turned away, else the node that the step repairs, or those that the plan repairs
-abbrev pub addedBy : Session → List ℕ → Move → List ℕ
-addedBy s nodes (step j a b) = afterwards (stepChecks s nodes j a b) (j ∷ []) []
-addedBy s nodes run = afterwards (nodesChecks s (length nodes)) (repairedNodes (planIn s)) []
+-- the steps that a call makes, where `live` are the nodes live before it: none where it is turned away with the session that it gets,
+-- else the step that it names, or those of the plan
+abbrev pub madeBy : Family → ℕ → Session → List ℕ → List ℕ → Move → List Step
+madeBy f k s live nodes (step j a b) = answer (stepChecks s nodes j a b) (namedStep j a b ∷ []) (λ number. [])
+madeBy f k s live nodes run = answer (nodesChecks s (length nodes)) (planOf f k (setLive noneLive live)) (λ number. [])
 
--- live after a list: at first the nodes of the start's list, then those that each call adds to the nodes live before it
-unfoldable pub liveAfter : ℕ → ℕ → ℕ → List ℕ → List Call → List ℕ
-liveAfter family k L live [] = live
-liveAfter family k L live (call ∷ calls) =
-    liveAfter family k L (live ++ addedBy (sessionOf family k L live) (call .nodes) (call .move)) calls
+-- the steps that a list of calls makes: those of the first, and then those of the others, which get the session that it gives back
+unfoldable pub stepsMade : Family → ℕ → Session → List ℕ → List Call → List Step
+stepsMade f k s live [] = []
+stepsMade f k s live (call ∷ calls) =
+    let made = madeBy f k s live (call .nodes) (call .move) in
+    made ++ stepsMade f k (called s (call .nodes) (call .move) .session) (live ++ repairedNodes made) calls
+
+-- the steps made since a start, whose list are the nodes live at first
+abbrev pub madeAfter : ℕ → ℕ → ℕ → List ℕ → List Call → List Step
+madeAfter family k L list calls = stepsMade (familyOf family) k (started family k L list .session) list calls
+
+-- live after a list: the nodes of the start's list, and those that the steps made since repair
+abbrev pub liveAfter : ℕ → ℕ → ℕ → List ℕ → List Call → List ℕ
+liveAfter family k L list calls = list ++ repairedNodes (madeAfter family k L list calls)
 
 -- ---- one nodes buffer, handed from call to call
 

@@ -3,19 +3,21 @@ use mathlib.Core.Path.{_≡_}
 use mathlib.Core.Bool.{true, false, not}
 use mathlib.Core.List.{List, [], _∷_, _++_}
 use mathlib.Core.Logic.{_↔_}
-use Prim.Native.Nat.{ℕ, _*_, _/_, _%_, _≤_, _<_}
+use Prim.Native.Nat.{ℕ, _+_, _*_, _/_, _%_, _≤_, _<_}
 use lib.ListN.{length, getD, take, drop}
 use lib.Dec.{eqb}
-use Rattle.families.specs.Families.{familyOf, nodeCount}
+use Rattle.families.specs.Families.{familyOf, nodeCount, IsNode}
 use Rattle.blocks.specs.Blocks.{blockOf}
 use Rattle.checks.specs.Checks.{_gives_, firstMet}
 use Rattle.checks.specs.Claims.{InRange}
 use Rattle.lists.specs.Lists.{someOutside, rises, isIn, isLive}
+use Rattle.counts.specs.Counts.{countOf, sumOf}
+use Rattle.planning.specs.Plan.{nodesLeft}
 use Rattle.boxes.specs.Box.{familyIn, kIn, blockLengthIn, heldCountIn, namesIn, nodeCountIn, boxLength, bodyChecks, bodyOf}
 use Rattle.boxes.specs.Bodies.{boxOf}
 use Rattle.boxes.specs.Claims.{AcceptedBox, SoundHead, oldBoxChecks, Changed, Named}
 use Rattle.repair.specs.declared.Session.{Session}
-use Rattle.repair.specs.Session.{sessionOf, acceptedStart, refusedStart, started, nodeCountOf, noStart}
+use Rattle.repair.specs.Session.{afresh, Arrays, sessionOf, acceptedStart, refusedStart, started, nodeCountOf, unsound}
 use Rattle.repair.specs.Boxed.{sessionIn, checkedBox, readChecks, readBox, nodesRead, writtenLength, written, outWritten}
 use Rattle.repair.specs.LiveNodes.{liveNodesOf, liveListed, outListed}
 
@@ -26,14 +28,21 @@ abbrev pub StartClaim : Type 0
 StartClaim = (family k L : ℕ) (list : List ℕ)
     → (started family k L list .refusal ≡ 0) ↔ (InRange family k L × (someOutside (nodeCount (familyOf family) k) list ≡ false) × (rises list ≡ true))
 
--- some accepted start gives exactly this session
-pub record FromStart (s : Session) : Type 0 where
-  pub list : List ℕ
-  pub start-gives : started (s .family) (s .k) (s .len) list ≡ acceptedStart s
+-- what a session has to hold, one by one
+pub record Sound (s : Session) : Type 0 where
+  pub range : InRange (s .family) (s .k) (s .len)
+  -- a number that is marked live is a node's
+  pub live : (j : ℕ) → isLive (s .live) j ≡ true → IsNode (familyOf (s .family)) (s .k) j
+  -- the reads sum to twice the steps
+  pub sum : sumOf (s .reads) ≡ 2 * s .steps
+  -- a number that was read is a node's
+  pub reads : (j : ℕ) → 1 ≤ countOf (s .reads) j → IsNode (familyOf (s .family)) (s .k) j
+  -- steps and missing nodes do not exceed n
+  pub few : s .steps + nodesLeft (s .live) (nodeCountOf s) ≤ nodeCountOf s
 
--- 13 is due exactly where no start gives the session
-abbrev pub NoStartClaim : Type 0
-NoStartClaim = (s : Session) → length (s .live) ≡ 256 → (noStart s ≡ false) ↔ FromStart s
+-- 13 is not due exactly where it holds all of them, whether a start leads to it or not
+abbrev pub SoundClaim : Type 0
+SoundClaim = (s : Session) → Arrays s → (unsound s ≡ false) ↔ Sound s
 
 -- mark j of an accepted start's session is live exactly when j is in the list
 abbrev pub StartMarksClaim : Type 0
@@ -69,9 +78,9 @@ pub record EmptyBox (s : Session) (nodes out : List ℕ) : Type 0 where
   pub answer : written s nodes [] out ≡ record { refusal = 0; length = 8; session = s }
   pub head : outWritten s nodes [] out ≡ (s .family ∷ s .k ∷ s .len % 256 ∷ s .len / 256 ∷ 0 ∷ 0 ∷ 0 ∷ 0 ∷ []) ++ drop 8 out
 
--- of every session that some start gives, with room for it
+-- of every session that is not turned away with 13, with room for it
 abbrev pub EmptyBoxClaim : Type 0
-EmptyBoxClaim = (s : Session) (nodes out : List ℕ) → noStart s ≡ false → length nodes ≡ nodeCountOf s * s .len → 8 ≤ length out → EmptyBox s nodes out
+EmptyBoxClaim = (s : Session) (nodes out : List ℕ) → unsound s ≡ false → length nodes ≡ nodeCountOf s * s .len → 8 ≤ length out → EmptyBox s nodes out
 
 -- ---- the live nodes, listed
 
@@ -86,8 +95,8 @@ pub record LiveListClaims (s : Session) (out : List ℕ) : Type 0 where
   pub answer : liveListed s out ≡ record { refusal = 0; length = length (listLeft s out); session = s }
   pub room : length (listLeft s out) ≤ length out
   pub rest : outListed s out ≡ listLeft s out ++ drop (length (listLeft s out)) out
-  -- a start by it gives the session, so that it is of nodes, strictly rises, and has exactly the live ones
-  pub start : length (s .live) ≡ 256 → started (s .family) (s .k) (s .len) (listLeft s out) ≡ acceptedStart s
+  -- a start by it gives the same family, k, L and marks, so that it is of nodes, strictly rises, and has exactly the live ones
+  pub start : length (s .live) ≡ 256 → started (s .family) (s .k) (s .len) (listLeft s out) ≡ acceptedStart (afresh s)
 
 -- wherever it is accepted
 abbrev pub LiveListClaim : Type 0

@@ -7,7 +7,7 @@ use Rattle.checks.specs.Checks.{Check, _gives_, answer, afterwards}
 use Rattle.lists.specs.Lists.{liveNodes}
 use Rattle.repair.specs.declared.Session.{Session}
 use Rattle.repair.specs.declared.Written.{Written}
-use Rattle.repair.specs.Session.{nodeCountOf, noStart}
+use Rattle.repair.specs.Session.{nodeCountOf, unsound}
 use Rattle.repair.specs.Boxed.{refusedWrite}
 
 -- the live nodes of a session, rising
@@ -16,7 +16,7 @@ liveNodesOf s = liveNodes (s .live) (nodeCountOf s)
 
 -- Live nodes: 13, then 6 for a buffer that is shorter than needed
 unfoldable pub liveChecks : Session → List ℕ → List Check
-liveChecks s out = (noStart s gives 13) ∷ (ltb (length out) (length (liveNodesOf s)) gives 6) ∷ []
+liveChecks s out = (unsound s gives 13) ∷ (ltb (length out) (length (liveNodesOf s)) gives 6) ∷ []
 
 -- what listing them gives: their number. The session stays
 unfoldable pub liveListed : Session → List ℕ → Written

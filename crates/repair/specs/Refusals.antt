@@ -12,7 +12,7 @@ use Rattle.boxes.specs.Box.{bodyChecks, bodyOf}
 use Rattle.repair.specs.declared.Session.{Session}
 use Rattle.repair.specs.declared.Started.{Started}
 use Rattle.repair.specs.declared.Repairs.{Repairs}
-use Rattle.repair.specs.Session.{started, noStart}
+use Rattle.repair.specs.Session.{started, unsound}
 use Rattle.repair.specs.Boxed.{checkedBox, readBox, nodesRead, written, outWritten}
 use Rattle.repair.specs.LiveNodes.{liveListed, outListed}
 use Rattle.repair.specs.ReadOut.{missingIn, readOut, objectOut}
@@ -25,7 +25,7 @@ Refused number = number ≡ 0 → ⊥
 
 -- what a refused start, check or read gives: its number, and a session of zeros with every mark missing
 abbrev pub noSession : ℕ → Started
-noSession number = record { refusal = number; session = record { family = 0; k = 0; len = 0; live = replicate 256 false } }
+noSession number = record { refusal = number; session = record { family = 0; k = 0; len = 0; steps = 0; live = replicate 256 false; reads = replicate 256 0 } }
 
 -- what a refused plan or run gives: its number and zeros, and the session as handed in
 abbrev pub noSteps : Session → ℕ → Repairs
@@ -69,6 +69,19 @@ pub record Thirteen (s : Session) : Type 0 where
   pub plan : (out : List ℕ) → planned s out .refusal ≡ 13
   pub run : (nodes : List ℕ) → ran s nodes .refusal ≡ 13
 
--- where no start gives the session
+-- where the session cannot stand
 abbrev pub ThirteenClaim : Type 0
-ThirteenClaim = (s : Session) → noStart s ≡ true → Thirteen s
+ThirteenClaim = (s : Session) → unsound s ≡ true → Thirteen s
+
+-- no operation of a session gives 13, whatever is asked for
+pub record NotThirteen (s : Session) : Type 0 where
+  pub write : (nodes list out : List ℕ) → written s nodes list out .refusal ≡ 13 → ⊥
+  pub live : (out : List ℕ) → liveListed s out .refusal ≡ 13 → ⊥
+  pub read-out : (nodes object : List ℕ) → readOut s nodes object .refusal ≡ 13 → ⊥
+  pub step : (nodes : List ℕ) (j a b : ℕ) → stepped s nodes j a b .refusal ≡ 13 → ⊥
+  pub plan : (out : List ℕ) → planned s out .refusal ≡ 13 → ⊥
+  pub run : (nodes : List ℕ) → ran s nodes .refusal ≡ 13 → ⊥
+
+-- where it can
+abbrev pub NotThirteenClaim : Type 0
+NotThirteenClaim = (s : Session) → unsound s ≡ false → NotThirteen s

@@ -15,23 +15,23 @@ use Rattle.planning.specs.Pairs.{NoPairLeft}
 use Rattle.planning.specs.Plan.{Step}
 use Rattle.planning.specs.Made.{stepsIn}
 use Rattle.repair.specs.declared.Session.{Session}
-use Rattle.repair.specs.Session.{nodeCountOf, noStart}
+use Rattle.repair.specs.Session.{afresh, Arrays, nodeCountOf, unsound}
 use Rattle.repair.specs.Boxed.{writtenLength, written}
 use Rattle.repair.specs.LiveNodes.{liveNodesOf, liveListed}
-use Rattle.repair.specs.Step.{stepped, nodesStepped}
+use Rattle.repair.specs.Step.{namedStep, stepped, nodesStepped}
 use Rattle.repair.specs.Repairs.{planIn, planned, outPlanned, ran, nodesRan}
 use Rattle.repair.specs.ReadOut.{missingIn, readOut, objectOut}
 use Rattle.repair.specs.Calls.{Move, step, run, called, stateAfter}
 
 -- ---- step
 
--- a step is accepted exactly where some start gives the session, the nodes buffer is n × L bytes, and the step can be made: the node
--- is missing, and the two others are live and related to it
+-- a step is accepted exactly where the session can stand, the nodes buffer is n × L bytes, and the step can be made: the node is
+-- missing, and the two others are live and related to it
 abbrev pub StepClaim : Type 0
 StepClaim = (s : Session) (nodes : List ℕ) (j a b : ℕ)
     → (stepped s nodes j a b .refusal ≡ 0)
-    ↔ ((noStart s ≡ false) × (length nodes ≡ nodeCountOf s * s .len)
-    × CanMake (familyOf (s .family)) (s .k) (s .live) (record { round = 0; node = j; smaller = a; larger = b }))
+    ↔ ((unsound s ≡ false) × (length nodes ≡ nodeCountOf s * s .len)
+    × CanMake (familyOf (s .family)) (s .k) (s .live) (namedStep j a b))
 
 -- a step leaves the blocks of all other nodes
 abbrev pub StepKeepsClaim : Type 0
@@ -40,32 +40,32 @@ StepKeepsClaim = (s : Session) (nodes : List ℕ) (j a b : ℕ) → stepped s no
 
 -- ---- plan, run, write, the live nodes and read out
 
--- some start gives the session, and the nodes buffer is n × L bytes
+-- the session can stand, and the nodes buffer is n × L bytes
 abbrev pub Suits : Session → List ℕ → Type 0
-Suits s nodes = (noStart s ≡ false) × (length nodes ≡ nodeCountOf s * s .len)
+Suits s nodes = (unsound s ≡ false) × (length nodes ≡ nodeCountOf s * s .len)
 
 -- each is accepted exactly where it says
 pub record Accepts (s : Session) : Type 0 where
   -- a plan: the destination has four bytes for each step
-  pub plan : (out : List ℕ) → (planned s out .refusal ≡ 0) ↔ ((noStart s ≡ false) × (4 * length (planIn s) ≤ length out))
+  pub plan : (out : List ℕ) → (planned s out .refusal ≡ 0) ↔ ((unsound s ≡ false) × (4 * length (planIn s) ≤ length out))
   pub run : (nodes : List ℕ) → (ran s nodes .refusal ≡ 0) ↔ Suits s nodes
   -- a write: the list has live nodes of 1 to n alone and strictly rises, and the box fits its destination
   pub write : (nodes list out : List ℕ) → (written s nodes list out .refusal ≡ 0)
       ↔ (Suits s nodes × (someOutside (nodeCountOf s) list ≡ false) × (rises list ≡ true) × (someMissing (s .live) list ≡ false) × (writtenLength s list ≤ length out))
   -- a list of the live nodes: the buffer has a byte for each
-  pub live : (out : List ℕ) → (liveListed s out .refusal ≡ 0) ↔ ((noStart s ≡ false) × (length (liveNodesOf s) ≤ length out))
+  pub live : (out : List ℕ) → (liveListed s out .refusal ≡ 0) ↔ ((unsound s ≡ false) × (length (liveNodesOf s) ≤ length out))
   -- read out: the object is k × L bytes, and no data block's node is missing
   pub read-out : (nodes object : List ℕ) → (readOut s nodes object .refusal ≡ 0) ↔ (Suits s nodes × (length object ≡ s .k * s .len) × (missingIn s ≡ 0))
 
 abbrev pub AcceptsClaim : Type 0
 AcceptsClaim = (s : Session) → Accepts s
 
--- ---- marks for 0 and above n are never live
+-- ---- a session that can stand
 
--- a session that some start gives is handed back as one, by a step and by a run, refused or not
+-- it is handed back as one, by a step and by a run, refused or not
 abbrev pub StaysClaim : Type 0
-StaysClaim = (s : Session) → length (s .live) ≡ 256 → noStart s ≡ false
-    → (nodes : List ℕ) (move : Move) → noStart (called s nodes move .session) ≡ false
+StaysClaim = (s : Session) → Arrays s → unsound s ≡ false
+    → (nodes : List ℕ) (move : Move) → unsound (called s nodes move .session) ≡ false
 
 -- a live node stays live
 abbrev pub LiveStaysClaim : Type 0
@@ -78,9 +78,9 @@ abbrev pub PlanWritesClaim : Type 0
 PlanWritesClaim = (s : Session) (out : List ℕ) → planned s out .refusal ≡ 0 → stepsIn (outPlanned s out) (planned s out .steps) ≡ planIn s
 
 -- a run after a run repairs nothing: the same nodes left, session and buffer
-pub record RunAgain (s : Session) (nodes other : List ℕ) : Type 0 where
-  pub answer : ran (ran s nodes .session) other ≡ record { refusal = 0; steps = 0; rounds = 0; left = ran s nodes .left; session = ran s nodes .session }
-  pub nodes-are : nodesRan (ran s nodes .session) other ≡ other
+pub record RunAgain (s : Session) (nodes : List ℕ) (next : Session) (other : List ℕ) : Type 0 where
+  pub answer : ran next other ≡ record { refusal = 0; steps = 0; rounds = 0; left = ran s nodes .left; session = next }
+  pub nodes-are : nodesRan next other ≡ other
 
 -- of a run
 pub record RunClaims (s : Session) (nodes : List ℕ) : Type 0 where
@@ -93,12 +93,13 @@ pub record RunClaims (s : Session) (nodes : List ℕ) : Type 0 where
       → blockOf (s .len) (nodesRan s nodes) j ≡ blockOf (s .len) nodes j
   pub live-kept : (j : ℕ) → IsNode (familyOf (s .family)) (s .k) j → isLive (s .live) j ≡ true
       → blockOf (s .len) (nodesRan s nodes) j ≡ blockOf (s .len) nodes j
-  -- a run after it repairs nothing
-  pub again : (other : List ℕ) → length other ≡ nodeCountOf s * s .len → RunAgain s nodes other
+  -- a run after it repairs nothing, in its session and in every other of the same family, k, L and marks
+  pub again : (next : Session) (other : List ℕ) → afresh next ≡ afresh (ran s nodes .session) → unsound next ≡ false → length other ≡ nodeCountOf s * s .len
+      → RunAgain s nodes next other
 
 -- of every accepted run
 abbrev pub RunClaim : Type 0
-RunClaim = (s : Session) → length (s .live) ≡ 256 → (nodes : List ℕ) → ran s nodes .refusal ≡ 0 → RunClaims s nodes
+RunClaim = (s : Session) → Arrays s → (nodes : List ℕ) → ran s nodes .refusal ≡ 0 → RunClaims s nodes
 
 -- ---- the object's own blocks (demand 2)
 
@@ -116,5 +117,5 @@ pub record OwnClaims (object : List ℕ) (s : Session) (nodes : List ℕ) (moves
       → objectOut (stateAfter called s nodes moves .session) (stateAfter called s nodes moves .nodes) result ≡ object
 
 abbrev pub OwnClaim : Type 0
-OwnClaim = (object : List ℕ) (s : Session) (nodes : List ℕ) → length (s .live) ≡ 256 → length object ≡ s .k * s .len → LiveAreOwn object s nodes
+OwnClaim = (object : List ℕ) (s : Session) (nodes : List ℕ) → Arrays s → length object ≡ s .k * s .len → LiveAreOwn object s nodes
     → (moves : List Move) → OwnClaims object s nodes moves

@@ -5,12 +5,12 @@ use lib.ListN.{length, drop}
 use lib.Dec.{ltb}
 use Rattle.families.specs.Families.{familyOf}
 use Rattle.checks.specs.Checks.{Check, _gives_, answer, afterwards}
-use Rattle.planning.specs.Plan.{Step, planOf, repairedNodes, marksAfter, stepBytes, lastRound, nodesLeft}
+use Rattle.planning.specs.Plan.{Step, planOf, marksAfter, stepBytes, lastRound, nodesLeft}
 use Rattle.planning.specs.Made.{nodesMade}
 use Rattle.repair.specs.declared.Session.{Session}
 use Rattle.repair.specs.declared.Repairs.{Repairs}
-use Rattle.repair.specs.Session.{nodeCountOf, noStart, nodesChecks}
-use Rattle.repair.specs.Step.{withLive}
+use Rattle.repair.specs.Session.{nodeCountOf, unsound, nodesChecks}
+use Rattle.repair.specs.Step.{afterSteps}
 
 -- the plan of a session
 abbrev pub planIn : Session → List Step
@@ -27,7 +27,7 @@ refusedRepairs s number = record { refusal = number; steps = 0; rounds = 0; left
 
 -- Plan: 13, then 6 for a destination under four bytes a step
 unfoldable pub planChecks : Session → List ℕ → List Check
-planChecks s out = (noStart s gives 13) ∷ (ltb (length out) (4 * length (planIn s)) gives 6) ∷ []
+planChecks s out = (unsound s gives 13) ∷ (ltb (length out) (4 * length (planIn s)) gives 6) ∷ []
 
 -- what a plan gives: the session stays
 unfoldable pub planned : Session → List ℕ → Repairs
@@ -37,9 +37,9 @@ planned s out = answer (planChecks s out) (repairsOf s s) (refusedRepairs s)
 unfoldable pub outPlanned : Session → List ℕ → List ℕ
 outPlanned s out = afterwards (planChecks s out) (stepBytes (planIn s) ++ drop (4 * length (planIn s)) out) out
 
--- what a run gives (Run: 13, 6): the next session has the repaired nodes live
+-- what a run gives (Run: 13, 6): the next session is the one once all steps of the plan are made
 unfoldable pub ran : Session → List ℕ → Repairs
-ran s nodes = answer (nodesChecks s (length nodes)) (repairsOf s (withLive s (repairedNodes (planIn s)))) (refusedRepairs s)
+ran s nodes = answer (nodesChecks s (length nodes)) (repairsOf s (afterSteps s (planIn s))) (refusedRepairs s)
 
 -- the nodes buffer afterwards: the plan's steps made; places of nodes left keep their bytes
 unfoldable pub nodesRan : Session → List ℕ → List ℕ

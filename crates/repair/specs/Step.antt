@@ -1,15 +1,17 @@
 -- Step (document 01, "The session"): the caller names a missing node and two live nodes related to it.
-use Prim.Native.Nat.{ℕ}
+use Prim.Native.Nat.{ℕ, _+_}
 use mathlib.Core.Bool.{not}
 use mathlib.Core.List.{List, [], _∷_, _++_}
 use lib.ListN.{length}
 use Rattle.families.specs.Families.{familyOf, areRelated}
 use Rattle.checks.specs.Checks.{Check, _gives_, answer, afterwards}
-use Rattle.lists.specs.Lists.{someOutside, isLive, setLive, someMissing}
+use Rattle.lists.specs.Lists.{someOutside, isLive, someMissing}
+use Rattle.counts.specs.Counts.{countAll}
+use Rattle.planning.specs.Plan.{Step, sourcesOf, marksAfter}
 use Rattle.planning.specs.Made.{mended}
 use Rattle.repair.specs.declared.Session.{Session}
 use Rattle.repair.specs.declared.Stepped.{Stepped}
-use Rattle.repair.specs.Session.{sessionWith, nodeCountOf, nodesChecks}
+use Rattle.repair.specs.Session.{nodeCountOf, nodesChecks}
 
 -- Step: 13, 6, 4 for any of the three, 10, 11, 12
 unfoldable pub stepChecks : Session → List ℕ → ℕ → ℕ → ℕ → List Check
@@ -21,14 +23,19 @@ stepChecks s nodes j a b =
     ∷ (someMissing (s .live) (a ∷ b ∷ []) gives 12)
     ∷ [])
 
--- the session with the nodes of a list live too
-abbrev pub withLive : Session → List ℕ → Session
-withLive s list = sessionWith (s .family) (s .k) (s .len) (setLive (s .live) list)
+-- the session once steps are made: the nodes that they repair are live, each step counts, and each of the two reads of a step
+abbrev pub afterSteps : Session → List Step → Session
+afterSteps s made =
+    record { family = s .family; k = s .k; len = s .len; steps = s .steps + length made; live = marksAfter (s .live) made; reads = countAll (s .reads) (sourcesOf made) }
 
--- what a step gives: the node becomes live; refused, its number and the session as handed in
+-- the step that a caller names; it is of no round
+abbrev pub namedStep : ℕ → ℕ → ℕ → Step
+namedStep j a b = record { round = 0; node = j; smaller = a; larger = b }
+
+-- what a step gives: the session once it is made; refused, its number and the session as handed in
 unfoldable pub stepped : Session → List ℕ → ℕ → ℕ → ℕ → Stepped
 stepped s nodes j a b =
-    answer (stepChecks s nodes j a b) (record { refusal = 0; session = withLive s (j ∷ []) }) (λ number. record { refusal = number; session = s })
+    answer (stepChecks s nodes j a b) (record { refusal = 0; session = afterSteps s (namedStep j a b ∷ []) }) (λ number. record { refusal = number; session = s })
 
 -- the nodes buffer afterwards: the node's block is the XOR of the two
 unfoldable pub nodesStepped : Session → List ℕ → ℕ → ℕ → ℕ → List ℕ

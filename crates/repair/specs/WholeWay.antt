@@ -15,7 +15,7 @@ use Rattle.leftover.specs.Open.{Open}
 use Rattle.readout.specs.DataBlocks.{dataNode}
 use Rattle.repair.specs.declared.Session.{Session}
 use Rattle.repair.specs.declared.Started.{Started}
-use Rattle.repair.specs.Session.{acceptedStart, started, nodeCountOf, noStart}
+use Rattle.repair.specs.Session.{afresh, Arrays, acceptedStart, started, nodeCountOf, unsound}
 use Rattle.repair.specs.Boxed.{checkedBox, readBox, nodesRead, written}
 use Rattle.repair.specs.LiveNodes.{liveListed}
 use Rattle.repair.specs.ReadOut.{readOut, objectOut}
@@ -27,10 +27,10 @@ use Rattle.repair.specs.RepairClaims.{LiveAreOwn}
 
 -- ---- a session and a nodes buffer that go together
 
--- some start gives the session, and the nodes buffer has its n × L bytes
+-- the session can stand, and the nodes buffer has its n × L bytes
 pub record Fits (s : Session) (nodes : List ℕ) : Type 0 where
-  pub marks : length (s .live) ≡ 256
-  pub starts : noStart s ≡ false
+  pub arrays : Arrays s
+  pub sound : unsound s ≡ false
   pub size : length nodes ≡ nodeCountOf s * s .len
 
 -- a session of the same family, k and L
@@ -57,10 +57,10 @@ pub record FitsClaim : Type 0 where
   pub write : (s : Session) (nodes room out : List ℕ) → Fits s nodes → liveListed s room .refusal ≡ 0 → boxLength (nodeCountOf s) (s .len) ≤ length out
       → written s nodes (listLeft s room) out .refusal ≡ 0
 
--- the box of every live node checks to the session that it was written from
+-- the box of every live node checks to the session that it was written from, as it was before any step
 abbrev pub WriteLiveClaim : Type 0
 WriteLiveClaim = (s : Session) (nodes room out : List ℕ) → length (s .live) ≡ 256 → liveListed s room .refusal ≡ 0
-    → written s nodes (listLeft s room) out .refusal ≡ 0 → checkedBox (boxWritten s nodes (listLeft s room) out) ≡ acceptedStart s
+    → written s nodes (listLeft s room) out .refusal ≡ 0 → checkedBox (boxWritten s nodes (listLeft s room) out) ≡ acceptedStart (afresh s)
 
 -- ---- the object's own blocks
 

@@ -21,7 +21,9 @@ fn box_session(bytes: &[u8]) -> Session
         family: boxes::family(bytes),
         k: boxes::block_count(bytes),
         len: boxes::block_length(bytes),
+        steps: 0,
         live: live,
+        reads: [0u16; 256],
     }
 }
 

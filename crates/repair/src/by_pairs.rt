@@ -11,7 +11,7 @@ ghost use lib.ListN.{length, drop};
 ghost use Rattle.families.specs.Families.{familyOf};
 ghost use Rattle.planning.specs.Plan.{stepBytes};
 ghost use Rattle.planning.specs.Inner.{plannedOf};
-ghost use Rattle.repair.specs.Session.{noStart};
+ghost use Rattle.repair.specs.Session.{unsound};
 ghost use Rattle.repair.specs.Repairs.{planIn, refusedRepairs, planned, outPlanned, ran, nodesRan};
 
 // An accepted plan or run: what the plan comes to, with the session that is handed back.
@@ -43,7 +43,7 @@ impl Session {
 
     // The plan, made aside in a list with room for every step.
     fn draw_up(self, steps: &mut [u8]) -> Planned
-        requires { ⌜ (noStart self ≡ false) × (length (now steps) ≡ 1020) ⌝ }
+        requires { ⌜ (unsound self ≡ false) × (length (now steps) ≡ 1020) ⌝ }
         ensures { λ r. ⌜ (r ≡ plannedOf (familyOf (self .family)) (self .k) (self .live)) × (r .steps ≤ 255) ⌝ }
         ensures { λ _. ⌜ now (steps .exit) ≡ stepBytes (planIn self) ++ drop (4 * length (planIn self)) (now (steps .entry)) ⌝ }
     {
@@ -57,7 +57,7 @@ impl Session {
         ensures { λ r. ⌜ r ≡ planned self (now (out .entry)) ⌝ }
         ensures { λ _. ⌜ now (out .exit) ≡ outPlanned self (now (out .entry)) ⌝ }
     {
-        if self.has_no_start() {
+        if self.is_unsound() {
             return self.no_repairs(13);
         }
         let mut steps = plan_room();
@@ -70,7 +70,7 @@ impl Session {
         counted(made, self)
     }
 
-    // The plan carried out on the nodes buffer; the repaired nodes become live.
+    // The plan carried out on the nodes buffer; the repaired nodes become live, and its steps and their reads are counted.
     pub fn run(mut self, nodes: &mut [u8]) -> Repairs
         ensures { λ r. ⌜ r ≡ ran self (now (nodes .entry)) ⌝ }
         ensures { λ _. ⌜ now (nodes .exit) ≡ nodesRan self (now (nodes .entry)) ⌝ }
@@ -84,6 +84,10 @@ impl Session {
         planning::carry::carry_out(self.len, &steps, made.steps, nodes);
         let repaired = made.live;
         self.live = repaired;
+        let mut reads = self.reads;
+        planning::carry::count_reads(&steps, made.steps, &mut reads);
+        self.reads = reads;
+        self.steps += made.steps;
         counted(made, self)
     }
 }

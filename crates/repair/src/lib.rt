@@ -10,13 +10,15 @@ ghost use mathlib.Core.Path.{_≡_};
 ghost use lib.ListN.{replicate};
 ghost use Rattle.repair.specs.Boxed.{refusedWrite};
 
-// A family, k and L, and a mark for each node number, live or missing. It is plain data: whatever a caller puts into one is
-// refused by the first check of an operation where no start gives it.
+// A family, k and L, the steps made since the start, a mark for each node number, live or missing, and how often each was read by
+// steps. It is plain data: whatever a caller puts into one, an operation first checks that it can stand.
 pub struct Session {
     pub family: usize,
     pub k: usize,
     pub len: usize,
+    pub steps: usize,
     pub live: [bool; 256],
+    pub reads: [u16; 256],
 }
 
 // What a start or a box gives: 0 and the session, or the refusal's number and a session of zeros.

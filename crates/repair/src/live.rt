@@ -10,7 +10,7 @@ impl Session {
         ensures { λ r. ⌜ r ≡ liveListed self (now (out .entry)) ⌝ }
         ensures { λ _. ⌜ now (out .exit) ≡ outListed self (now (out .entry)) ⌝ }
     {
-        if self.has_no_start() {
+        if self.is_unsound() {
             return self.not_written(13);
         }
         let n = families::node_count_of(self.family, self.k);

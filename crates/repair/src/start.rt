@@ -1,9 +1,10 @@
-// Start, and whether a session is one that some start gives.
+// Start, and whether a session can stand.
 use crate::Session;
 use crate::Started;
 ghost use mathlib.Core.Path.{_≡_};
+ghost use Prim.Native.Nat.{_≤_};
 ghost use Rattle.checks.specs.Checks.{firstMet};
-ghost use Rattle.repair.specs.Session.{refusedStart, startChecks, started, noStart, nodesChecks};
+ghost use Rattle.repair.specs.Session.{refusedStart, startChecks, started, nodeCountOf, miscounted, unsound, nodesChecks};
 
 // A refused start or box: a session of zeros with every mark missing.
 pub fn refused(number: u8) -> Started
@@ -15,7 +16,9 @@ pub fn refused(number: u8) -> Started
             family: 0,
             k: 0,
             len: 0,
+            steps: 0,
             live: [false; 256],
+            reads: [0u16; 256],
         },
     }
 }
@@ -47,27 +50,50 @@ impl Session {
                 family: family,
                 k: k,
                 len: len,
+                steps: 0,
                 live: live,
+                reads: [0u16; 256],
             },
         }
     }
 
-    // Whether no start gives this session.
-    pub fn has_no_start(self) -> bool
-        ensures { λ r. ⌜ r ≡ noStart self ⌝ }
+    // Whether the counts cannot stand. Steps and missing nodes exceed n where there are more steps than live nodes; fewer steps
+    // can be doubled.
+    fn is_miscounted(self, n: usize) -> bool
+        requires { ⌜ (n ≡ nodeCountOf self) × (n ≤ 255) ⌝ }
+        ensures { λ r. ⌜ r ≡ miscounted self ⌝ }
+    {
+        let live = self.live;
+        if lists::count_live(&live, n) < self.steps {
+            return true;
+        }
+        let reads = self.reads;
+        if counts::counted_outside(n, reads) {
+            return true;
+        }
+        counts::sum(reads) != 2 * self.steps
+    }
+
+    // Whether the session cannot stand: it is turned away with 13.
+    pub fn is_unsound(self) -> bool
+        ensures { λ r. ⌜ r ≡ unsound self ⌝ }
     {
         if checks::parameter_refusal(self.family, self.k, self.len) != 0 {
             return true;
         }
         let n = families::node_count_of(self.family, self.k);
         let live = self.live;
-        lists::live_outside(n, &live)
+        if lists::live_outside(n, &live) {
+            return true;
+        }
+        self.is_miscounted(n)
     }
+
     // 13, or 6 for a nodes buffer that is not n × L bytes long, or 0.
     pub fn nodes_refusal(self, nodes: usize) -> u8
         ensures { λ r. ⌜ r ≡ firstMet (nodesChecks self nodes) ⌝ }
     {
-        if self.has_no_start() {
+        if self.is_unsound() {
             return 13;
         }
         let n = families::node_count_of(self.family, self.k);

@@ -52,7 +52,7 @@ impl Session {
         0
     }
 
-    // The node's block becomes the XOR of the two others, and the node becomes live.
+    // The node's block becomes the XOR of the two others, and the node becomes live; the step and its two reads are counted.
     pub fn step(mut self, nodes: &mut [u8], node: usize, first: usize, second: usize) -> Stepped
         ensures { λ r. ⌜ r ≡ stepped self (now (nodes .entry)) node first second ⌝ }
         ensures { λ _. ⌜ now (nodes .exit) ≡ nodesStepped self (now (nodes .entry)) node first second ⌝ }
@@ -66,6 +66,9 @@ impl Session {
         }
         blocks::xor_block(nodes, self.len, node, first, second);
         self.live[node] = true;
+        self.steps += 1;
+        self.reads[first] += 1;
+        self.reads[second] += 1;
         Stepped {
             refusal: 0,
             session: self,

@@ -4,4 +4,4 @@ use Rattle.mogtriz.proofs.sessions.marked.Statement.{statement}
 use Rattle.mogtriz.proofs.sessions.marked.Tie as tie
 
 pub marked-spec : {M : Type 1} → statement M
-marked-spec = tie.close (tie.spec (λ c κs. tt) (λ c. rw (c .bytes-of .ensures)))
+marked-spec = tie.close (tie.spec (λ c κs. tt) (λ c. rw (c .before .bytes-of .ensures)))

@@ -55,7 +55,7 @@ list-refusal-spec =
     (tie.spec
     (λ c κs. search needs)
     returns
-    (λ c κs. known _ (sized _ _ (passed c) .starts) .range .blocks)
+    (λ c κs. known _ (sized _ _ (passed c) .sound) .range .blocks)
     (λ c κs. search needs)
     returns-2
     (λ c κs. search needs)

@@ -10,7 +10,7 @@ use borrow.Author.Needs.{needs}
 use lib.ListN.{length, take, length-take}
 use lib.Seq.{take-at}
 use Rattle.families.proofs.Laws.{few}
-use Rattle.repair.specs.Session.{noStart}
+use Rattle.repair.specs.Session.{unsound}
 use Rattle.repair.specs.LiveNodes.{liveNodesOf}
 use Rattle.repair.proofs.StartLaws.{known}
 use Rattle.repair.proofs.LiveListLaws.{live-13, live-6, live-listed}
@@ -38,11 +38,11 @@ enough c = c .before .before
 
 -- ---- what is known there
 
-starts : (c : tie.Else1) → noStart (start c .args .self) ≡ false
-starts c = sym (c .before .has-no-start .ensures) ∙ c .if1 .left
+sound : (c : tie.Else1) → unsound (start c .args .self) ≡ false
+sound c = sym (c .before .is-unsound .ensures) ∙ c .if1 .left
 
 few-nodes : (c : tie.After-node-count-of) → c .node-count-of .result ≤ 255
-few-nodes c = omega (arith, c .node-count-of .ensures, few _ _ (known _ (starts (passed c)) .range .blocks))
+few-nodes c = omega (arith, c .node-count-of .ensures, few _ _ (known _ (sound (passed c)) .range .blocks))
 
 count-is : (c : tie.After-count-live) → c .count-live .result ≡ length (liveNodesOf (start (passed (numbered c)) .args .self))
 count-is c = rw (numbered c .node-count-of .ensures) at (c .count-live .ensures)
@@ -55,7 +55,7 @@ returns : tie.Need-returns
 returns c =
     let e = c .before .before in
     let g = e .before .before .args in
-    let r = live-13 (g .self) (g .out .now) (sym (e .has-no-start .ensures) ∙ c .before .if1 .taken) in
+    let r = live-13 (g .self) (g .out .now) (sym (e .is-unsound .ensures) ∙ c .before .if1 .taken) in
     (c .not-written .ensures ∙ r .answer-is, r .buffer-is)
 
 returns-2 : tie.Need-returns-2
@@ -63,7 +63,7 @@ returns-2 c =
     let l = c .before .before in
     let e = passed (numbered l) in
     let g = start e .args in
-    let r = live-6 (g .self) (g .out .now) (starts e) (omega (arith, count-is l, c .before .if2 .taken)) in
+    let r = live-6 (g .self) (g .out .now) (sound e) (omega (arith, count-is l, c .before .if2 .taken)) in
     (c .not-written2 .ensures ∙ r .answer-is, r .buffer-is)
 
 part-copy-block-end-2 : tie.Need-part-copy-block-end-2
@@ -80,7 +80,7 @@ returns-3 c =
     let e = passed (numbered n) in
     let g = start e .args in
     let m = count-is n in
-    let r = live-listed (g .self) (g .out .now) (starts e) (omega (arith, m, enough l .if2 .left)) in
+    let r = live-listed (g .self) (g .out .now) (sound e) (omega (arith, m, enough l .if2 .left)) in
     (rw (← m) at (r .answer-is), rw (p .copy-block .ensures, sub-zero (n .count-live .result), first-live l) (rw (← m) at (r .buffer-is)))
 
 pub live-nodes-spec : {M : Type 1} → statement M
@@ -90,7 +90,7 @@ live-nodes-spec =
     (λ c κs. search needs)
     (λ c κs. search needs)
     returns
-    (λ c κs. known _ (starts c) .range .blocks)
+    (λ c κs. known _ (sound c) .range .blocks)
     (λ c κs. few-nodes (c .before .before))
     (λ c κs. search needs)
     returns-2

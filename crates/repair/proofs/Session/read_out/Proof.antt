@@ -46,7 +46,7 @@ passed : (c : tie.Else1) → let g = start c .args in firstMet (nodesChecks (g .
 passed c = sym (c .before .nodes-refusal .ensures) ∙ c .if1 .left
 
 is-known : (c : tie.Else1) → Known (start c .args .self)
-is-known c = known _ (sized _ _ (passed c) .starts)
+is-known c = known _ (sized _ _ (passed c) .sound)
 
 block-is : (c : tie.After-missing-block) → let s = start (args-of c) .args .self in c .missing-block .result ≡ missingBlock (familyOf (s .family)) (s .k) (s .live)
 block-is c = rw (named c .family-of .ensures) at (c .missing-block .ensures)

@@ -62,7 +62,7 @@ passed : (c : tie.Else1) → let g = start c .args in firstMet (nodesChecks (g .
 passed c = sym (c .before .nodes-refusal .ensures) ∙ c .if1 .left
 
 in-range : (c : tie.Else1) → let s = start c .args .self in KInRange (familyOf (s .family)) (s .k)
-in-range c = known _ (sized _ _ (passed c) .starts) .range .blocks
+in-range c = known _ (sized _ _ (passed c) .sound) .range .blocks
 
 below : (c : tie.Else1) (i : ℕ) → outside 1 (nodeCountOf (start c .args .self)) i ≡ false → i < 256
 below c i h = omega (arith, node-of (start c .args .self) i h .last, few _ _ (in-range c))

@@ -39,7 +39,7 @@ sizes : (c : tie.Else1) → let g = start c .args in Sized (g .self) (length (g 
 sizes c = sized _ _ (passed c .sizes)
 
 session : (c : tie.Else1) → Known (start c .args .self)
-session c = known _ (sizes c .starts)
+session c = known _ (sizes c .sound)
 
 -- a list of nodes is short, and so is its box
 small : (c : tie.Else1) → let g = start c .args in (length (g .list .now) ≤ 255) × (length (g .list .now) * g .self .len ≤ 255 * mostL)
