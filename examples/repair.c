@@ -1,6 +1,6 @@
 /*
- * An object is stored as a box that keeps three of its seven nodes; the others are planned and repaired, and all seven are put away
- * and the object read out. It is C99 and C++ alike. Where the library is installed:
+ * An object is stored as a box that keeps three of its seven nodes; the others are planned and repaired, the reads that this took are
+ * printed, and all seven are put away and the object read out. It is C99 and C++ alike. Where the library is installed:
  *
  *   cc -std=c99 repair.c $(pkg-config --cflags --libs mogtriz) -o repair && ./repair
  */
@@ -99,6 +99,20 @@ static mogtriz_session repair(mogtriz_session session, buffer nodes)
     return run.session;
 }
 
+/* The session counts how often each node's block was read by steps, those of a run included. */
+static void print_reads(mogtriz_session session)
+{
+    const char *before = "";
+    printf("reads in %zu steps:", session.steps);
+    for (size_t node = 1; node <= MOGTRIZ_MOST_NODES; node++) {
+        if (session.reads[node] > 0) {
+            printf("%s %d of node %zu", before, session.reads[node], node);
+            before = ",";
+        }
+    }
+    printf("\n");
+}
+
 /* The box of every live node: all of them are named, as an empty list would give an empty box. */
 static void put_away(mogtriz_session session, buffer nodes)
 {
@@ -137,6 +151,7 @@ int main(void)
     mogtriz_session session = read_box(box, &nodes);
     print_plan(session);
     session = repair(session, nodes);
+    print_reads(session);
     put_away(session, nodes);
     buffer again = read_out(session, nodes);
     int same = again.length == object_len && memcmp(again.bytes, object, object_len) == 0;

@@ -45,7 +45,7 @@
  * The version of this header, raised when a layout or an answer changes. Where the library's is another, what it takes and gives
  * may be other than what is said here.
  */
-#define MOGTRIZ_VERSION 4
+#define MOGTRIZ_VERSION 5
 
 /* The families, with the range of k and n. */
 #define MOGTRIZ_SIMPLEX 1 /* n is 2^k - 1 */
@@ -79,7 +79,7 @@
  * at their first call, what a sanitizer adds, and what the system keeps in a thread's stack come on top: with glibc a start and a run
  * in one function did not fit in a thread's stack of 16384 bytes, its PTHREAD_STACK_MIN, and did in one of 20480.
  */
-#define MOGTRIZ_MOST_STACK 12288
+#define MOGTRIZ_MOST_STACK 24576
 
 /*
  * Why a call is turned away: ROW(number, name, text) for each reason. A call gives the first that is met in the order of its checks,
@@ -100,7 +100,7 @@
     ROW(10, MOGTRIZ_REFUSED_NOT_RELATED, "the three nodes of the step are not related")                                       \
     ROW(11, MOGTRIZ_REFUSED_ALREADY_LIVE, "the node to repair is live")                                                       \
     ROW(12, MOGTRIZ_REFUSED_NODE_MISSING, "a node to be read is missing")                                                     \
-    ROW(13, MOGTRIZ_REFUSED_NO_SUCH_SESSION, "no start gives this session")                                                   \
+    ROW(13, MOGTRIZ_REFUSED_NO_SUCH_SESSION, "the session's contents are out of range or do not agree")                       \
     ROW(14, MOGTRIZ_REFUSED_BLOCK_MISSING, "the node of a data block is missing")
 
 /* A constant's digits as text. */
@@ -184,18 +184,33 @@ size_t mogtriz_node_of_column(size_t family, size_t k, size_t column);
 uint8_t mogtriz_related(size_t family, size_t k, size_t a, size_t b, size_t c);
 
 /*
- * A session: a family, k and len, and a mark for each node number, 1 live and 0 missing; those for 0 and above n are never
- * live. It goes in by value and comes back by value. Any content may be handed in: where no start gives it (a number out of
- * range, a mark for 0 or above n that is live, or a mark that is neither 0 nor 1) the answer is 13.
+ * A session: a family, k and len, a mark for each node number, 1 live and 0 missing, and counts. `steps` is how many steps were
+ * accepted since the start, those of a run included, and reads[j] how often these read node j's block: a step reads its two sources
+ * once each. A start, and a box that is checked or read, begin with zeros. mogtriz_step and mogtriz_run count where they are served;
+ * no other call counts, and none that is turned away. The counts can be read off at any time.
+ *
+ * It goes in by value and comes back by value. Any content may be handed in. The answer is 13 where one of these holds, and in no
+ * other case, whether a start leads to the session or not:
+ *   - family, k or len is out of range;
+ *   - a mark for 0 or above n is live, or a mark is neither 0 nor 1;
+ *   - the reads do not sum to twice the steps;
+ *   - a read count stands against 0 or above n;
+ *   - the steps and the missing nodes of 1 to n together are more than n.
+ * No sum wraps, however large the counts are. So `steps` is at most n in a session that is taken, and a count at most 510.
  *
  * After an encode every node is at hand: its session is a start with the list 1 to n. A node that is lost or found damaged later
- * becomes missing when its mark is set to 0.
+ * becomes missing when its mark is set to 0. The steps since the start stay then: a repair leaves the sum of steps and missing nodes as
+ * it was, a node that is lost adds one, and once the sum is above n every call with the session gives 13. A start with the list of the
+ * nodes still live begins again with zero counts. mogtriz_live_nodes gives that list of a session that is not turned away; of any
+ * session it is the numbers of the marks that are 1.
  */
 typedef struct {
     size_t family;
     size_t k;
     size_t len;
+    size_t steps;
     uint8_t live[256];
+    uint16_t reads[256];
 } mogtriz_session;
 
 /* What a start or a box gives: 0 and the session, or the refusal's number and a session of zeros, which gives 13 if it is used. */
@@ -332,8 +347,9 @@ MOGTRIZ_CALL mogtriz_read_out_answer mogtriz_read_out(mogtriz_session session, c
                                                       uint8_t *object, size_t object_len);
 
 /*
- * One repair, from two nodes that the caller names: the node's block becomes the XOR of theirs, and it becomes live. Gives 0 or:
- * 13, 6 where nodes_len is not n * len, 4 for any of the three numbers, 10, 11, 12 where the first or the second is missing.
+ * One repair, from two nodes that the caller names: the node's block becomes the XOR of theirs, and it becomes live. `steps` of the
+ * session goes up by one, and so do the reads of the two. Gives 0 or: 13, 6 where nodes_len is not n * len, 4 for any of the three
+ * numbers, 10, 11, 12 where the first or the second is missing.
  */
 MOGTRIZ_CALL mogtriz_stepped mogtriz_step(mogtriz_session session, uint8_t *nodes, size_t nodes_len, size_t node, size_t first,
                                           size_t second);
@@ -348,10 +364,11 @@ MOGTRIZ_CALL mogtriz_stepped mogtriz_step(mogtriz_session session, uint8_t *node
 MOGTRIZ_CALL mogtriz_repairs mogtriz_plan(mogtriz_session session, uint8_t *out, size_t out_len);
 
 /*
- * The plan carried out on the nodes buffer; the next session has the repaired nodes live. Blocks of live nodes and places of
- * nodes left keep their bytes; where there are any left the run is accepted all the same, `left` says how many, and the marks of the
- * next session say which. A live block is taken to be what it says: damage to it is not noticed, and goes into the blocks repaired
- * from it. Gives 0 or: 13, 6 where nodes_len is not n * len.
+ * The plan carried out on the nodes buffer; the next session has the repaired nodes live, and every step of the plan counted, as
+ * mogtriz_step counts one. `steps` of the answer is those of this run, and session.steps those since the start. Blocks of live nodes
+ * and places of nodes left keep their bytes; where there are any left the run is accepted all the same, `left` says how many, and the
+ * marks of the next session say which. A live block is taken to be what it says: damage to it is not noticed, and goes into the blocks
+ * repaired from it. Gives 0 or: 13, 6 where nodes_len is not n * len.
  */
 MOGTRIZ_CALL mogtriz_repairs mogtriz_run(mogtriz_session session, uint8_t *nodes, size_t nodes_len);
 
@@ -566,8 +583,8 @@ static inline size_t mogtriz_box_len(size_t family, size_t k, size_t len, size_t
 }
 
 /*
- * How many nodes are live, in a session that some start gives: the room that mogtriz_live_nodes needs, and the `held` of a box of every
- * live node. Of any other session it is how many of the marks from 1 on are 1.
+ * How many nodes are live, in a session that is not turned away with 13: the room that mogtriz_live_nodes needs, and the `held` of a box
+ * of every live node. Of any other session it is how many of the marks from 1 on are 1.
  */
 static inline size_t mogtriz_live_count(mogtriz_session session)
 {

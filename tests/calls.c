@@ -6,8 +6,8 @@
 
 static int same_session(mogtriz_session one, mogtriz_session other)
 {
-    return one.family == other.family && one.k == other.k && one.len == other.len &&
-           memcmp(one.live, other.live, sizeof one.live) == 0;
+    return one.family == other.family && one.k == other.k && one.len == other.len && one.steps == other.steps &&
+           memcmp(one.live, other.live, sizeof one.live) == 0 && memcmp(one.reads, other.reads, sizeof one.reads) == 0;
 }
 
 static mogtriz_session no_session(void)
@@ -101,7 +101,9 @@ static void call_start(void)
     EXPECT(started.session.family == MOGTRIZ_SIMPLEX && started.session.k == K && started.session.len == LEN);
     for (size_t node = 0; node < sizeof started.session.live; node++) {
         EXPECT(started.session.live[node] == (node == 4 || node == 5 || node == 7));
+        EXPECT(started.session.reads[node] == 0);
     }
+    EXPECT(started.session.steps == 0);
     started = mogtriz_start(MOGTRIZ_SIMPLEX, K, LEN, falling, sizeof falling);
     EXPECT(started.refusal == MOGTRIZ_REFUSED_NOT_RISING);
     EXPECT(same_session(started.session, no_session()));
@@ -236,6 +238,51 @@ static void call_repairs(void)
     EXPECT(run.refusal == MOGTRIZ_REFUSED_NO_SUCH_SESSION && run.steps == 0 && same_session(run.session, no_session()));
 }
 
+/* A session in which nodes 4, 5 and 7 are live and these were read so often in so many steps. */
+static mogtriz_session counted(size_t steps, uint16_t of_4, uint16_t of_5, uint16_t of_7)
+{
+    mogtriz_session session = three_live();
+    session.steps = steps;
+    session.reads[4] = of_4;
+    session.reads[5] = of_5;
+    session.reads[7] = of_7;
+    return session;
+}
+
+/* A step reads its two sources, and a run those of every step of its plan; no other call counts, and none that is turned away. */
+static void call_to_be_counted(void)
+{
+    uint8_t nodes[N * LEN], steps[4 * N], list[N], box[sizeof three_box], again[K * LEN];
+    memcpy(nodes, three_nodes, sizeof nodes);
+    mogtriz_session wanted = counted(1, 1, 1, 0);
+    wanted.live[1] = 1;
+    mogtriz_stepped stepped = mogtriz_step(three_live(), nodes, sizeof nodes, 1, 5, 4);
+    EXPECT(stepped.refusal == MOGTRIZ_SERVED && same_session(stepped.session, wanted));
+    stepped = mogtriz_step(wanted, nodes, sizeof nodes, 3, 1, 2);
+    EXPECT(stepped.refusal == MOGTRIZ_REFUSED_NODE_MISSING && same_session(stepped.session, wanted));
+    EXPECT(same_session(mogtriz_run(wanted, nodes, sizeof nodes - 1).session, wanted));
+    EXPECT(same_session(mogtriz_plan(wanted, steps, sizeof steps).session, wanted));
+    EXPECT(same_session(mogtriz_live_nodes(wanted, list, sizeof list).session, wanted));
+    EXPECT(same_session(mogtriz_write(wanted, nodes, sizeof nodes, kept, sizeof kept, box, sizeof box).session, wanted));
+
+    /* the run goes on with 2 from 5 and 7, 3 from 4 and 7, and 6 from 1 and 7; from the start it is these and 1 from 4 and 5 */
+    mogtriz_repairs run = mogtriz_run(wanted, nodes, sizeof nodes);
+    wanted = counted(4, 2, 2, 3);
+    wanted.reads[1] = 1;
+    memset(wanted.live + 1, 1, N);
+    EXPECT(run.refusal == MOGTRIZ_SERVED && run.steps == 3 && same_session(run.session, wanted));
+    run = mogtriz_run(three_live(), nodes, sizeof nodes);
+    EXPECT(run.refusal == MOGTRIZ_SERVED && run.steps == 4 && same_session(run.session, wanted));
+    EXPECT(same_session(mogtriz_read_out(wanted, nodes, sizeof nodes, again, sizeof again).session, wanted));
+
+    /* counts that no steps lead to are taken, and counted on; those that do not agree are not */
+    stepped = mogtriz_step(counted(2, 4, 0, 0), nodes, sizeof nodes, 1, 4, 5);
+    EXPECT(stepped.refusal == MOGTRIZ_SERVED && stepped.session.steps == 3);
+    EXPECT(stepped.session.reads[4] == 5 && stepped.session.reads[5] == 1);
+    stepped = mogtriz_step(counted(2, 4, 1, 0), nodes, sizeof nodes, 1, 4, 5);
+    EXPECT(stepped.refusal == MOGTRIZ_REFUSED_NO_SUCH_SESSION && same_session(stepped.session, counted(2, 4, 1, 0)));
+}
+
 /* A box like the three nodes' but for one byte is turned away. */
 static uint8_t refusal_with(size_t place, uint8_t byte)
 {
@@ -289,6 +336,7 @@ int main(void)
     call_live_nodes();
     call_read_out();
     call_repairs();
+    call_to_be_counted();
     call_to_be_refused();
     call_by_address();
     return wrong == 0 ? 0 : 1;

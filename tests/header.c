@@ -1,5 +1,6 @@
 /*
- * What the header says by itself, held to the library: families and limits, lengths, refusals' texts, and which node has which column.
+ * What the header says by itself, held to the library: families and limits, lengths, the counts of a session that is taken, refusals'
+ * texts, and which node has which column.
  * It prints the header's sentences on the tetrahedron, on interleaving and on graded order, with the columns, bytes and nodes that the
  * library gives.
  */
@@ -197,7 +198,7 @@ static void hold_plan_room(void)
     EXPECT(MOGTRIZ_PLAN_ROOM == MOGTRIZ_STEP_LEN * MOGTRIZ_MOST_NODES);
 }
 
-/* Marks that no start gives are not live nodes. */
+/* A mark for 0, and one that is neither 0 nor 1, is no live node. */
 static void hold_live_count(void)
 {
     mogtriz_session session = three_live();
@@ -207,6 +208,73 @@ static void hold_live_count(void)
     EXPECT(mogtriz_live_count(session) == 3);
     session.live[255] = 1;
     EXPECT(mogtriz_live_count(session) == 4);
+}
+
+/* What a plan answers with nodes 1 to `live` live, and in so many steps so many reads of a node. */
+static uint8_t plan_refusal(size_t live, size_t steps, size_t node, uint16_t reads)
+{
+    uint8_t room[MOGTRIZ_PLAN_ROOM];
+    mogtriz_session session = mogtriz_start(MOGTRIZ_SIMPLEX, K, LEN, all_nodes, live).session;
+    session.steps = steps;
+    session.reads[node] = reads;
+    return mogtriz_plan(session, room, sizeof room).refusal;
+}
+
+/* The conditions of 13 that counts meet, each alone, and the sessions beside them, which are taken. */
+static void hold_counts(void)
+{
+    const size_t half = SIZE_MAX / 2 + 1;
+    EXPECT(plan_refusal(N, 0, 1, 0) == MOGTRIZ_SERVED);
+    EXPECT(plan_refusal(N, 1, 1, 2) == MOGTRIZ_SERVED);
+    EXPECT(plan_refusal(N, 1, 1, 1) == MOGTRIZ_REFUSED_NO_SUCH_SESSION);
+    EXPECT(plan_refusal(N, 1, 1, 3) == MOGTRIZ_REFUSED_NO_SUCH_SESSION);
+    EXPECT(plan_refusal(N, half, 1, 0) == MOGTRIZ_REFUSED_NO_SUCH_SESSION);
+    EXPECT(plan_refusal(N, half + 1, 1, 2) == MOGTRIZ_REFUSED_NO_SUCH_SESSION);
+    EXPECT(plan_refusal(N, SIZE_MAX, 1, UINT16_MAX) == MOGTRIZ_REFUSED_NO_SUCH_SESSION);
+    EXPECT(plan_refusal(N, 1, 0, 2) == MOGTRIZ_REFUSED_NO_SUCH_SESSION);
+    EXPECT(plan_refusal(N, 1, N, 2) == MOGTRIZ_SERVED);
+    EXPECT(plan_refusal(N, 1, N + 1, 2) == MOGTRIZ_REFUSED_NO_SUCH_SESSION);
+    for (size_t live = 0; live <= N; live++) {
+        EXPECT(plan_refusal(live, live, 1, (uint16_t)(2 * live)) == MOGTRIZ_SERVED);
+        EXPECT(plan_refusal(live, live + 1, 1, (uint16_t)(2 * live + 2)) == MOGTRIZ_REFUSED_NO_SUCH_SESSION);
+    }
+}
+
+/* The most that a count can be. */
+static void hold_most_reads(void)
+{
+    uint8_t list[MOGTRIZ_MOST_NODES];
+    for (size_t i = 0; i < sizeof list; i++) {
+        list[i] = (uint8_t)(i + 1);
+    }
+    mogtriz_session session = mogtriz_start(MOGTRIZ_SIMPLEX, MOGTRIZ_SIMPLEX_MOST_K, LEN, list, sizeof list).session;
+    session.steps = MOGTRIZ_MOST_NODES;
+    session.reads[1] = 510;
+    EXPECT(mogtriz_plan(session, NULL, 0).refusal == MOGTRIZ_SERVED);
+    session.steps++;
+    session.reads[1] = 512;
+    EXPECT(mogtriz_plan(session, NULL, 0).refusal == MOGTRIZ_REFUSED_NO_SUCH_SESSION);
+}
+
+/* Nodes that are lost after repairs: a mark set to 0 adds one to the sum of steps and missing nodes, and once that is above n the
+   session is turned away. A start with the nodes still live begins again. */
+static void hold_lost_later(void)
+{
+    uint8_t nodes[N * LEN], list[N];
+    memcpy(nodes, three_nodes, sizeof nodes);
+    mogtriz_repairs run = mogtriz_run(three_live(), nodes, sizeof nodes);
+    EXPECT(run.refusal == MOGTRIZ_SERVED && run.session.steps == 4);
+    size_t lost = 0;
+    for (; lost < N - 4; lost++) {
+        run.session.live[N - lost] = 0;
+        EXPECT(mogtriz_live_nodes(run.session, list, sizeof list).length == N - 1 - lost);
+    }
+    run.session.live[N - lost] = 0;
+    EXPECT(mogtriz_live_nodes(run.session, list, sizeof list).refusal == MOGTRIZ_REFUSED_NO_SUCH_SESSION);
+    EXPECT(mogtriz_live_count(run.session) == 3);
+    mogtriz_started again = mogtriz_start(MOGTRIZ_SIMPLEX, K, LEN, all_nodes, 3);
+    EXPECT(again.refusal == MOGTRIZ_SERVED && again.session.steps == 0);
+    EXPECT(memcmp(again.session.live, run.session.live, sizeof again.session.live) == 0);
 }
 
 static const char *texts[] = {
@@ -312,6 +380,9 @@ int main(void)
     hold_lengths_out_of_range();
     hold_plan_room();
     hold_live_count();
+    hold_counts();
+    hold_most_reads();
+    hold_lost_later();
     hold_texts();
     hold_columns();
     print_tetrahedron();

@@ -11,7 +11,7 @@
 #include <string.h>
 #include <ucontext.h>
 
-enum { STACK = 1 << 15, PAINT = 0xa5 };
+enum { STACK = 1 << 16, PAINT = 0xa5 };
 
 static uint8_t stack[STACK];
 
@@ -182,7 +182,7 @@ static void measure_all(void)
     }
 }
 
-/* Every call on a session with the listed nodes live, and then with buffers that are a byte short. */
+/* Every call on a session with the listed nodes live, then with buffers that are a byte short, and then with counts that do not agree. */
 static void measure_live(size_t family, size_t k, size_t len)
 {
     session = mogtriz_start(family, k, len, list, list_len).session;
@@ -195,6 +195,8 @@ static void measure_live(size_t family, size_t k, size_t len)
     object_len -= object_len > 0;
     nodes_len -= nodes_len > 0;
     box_len -= box_len > 0;
+    measure_all();
+    session.steps = 1;
     measure_all();
 }
 

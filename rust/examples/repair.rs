@@ -1,5 +1,6 @@
 //! The example of examples/repair.c in Rust; both print the same lines. An object is stored as a box that keeps three of its
-//! seven nodes, the others are planned and repaired, and all seven are put away and the object read out.
+//! seven nodes, the others are planned and repaired, the reads that this took are printed, and all seven are put away and the object
+//! read out.
 use mogtriz::{Refusal, SIMPLEX, Session, Step};
 
 const K: usize = 3;
@@ -18,6 +19,7 @@ fn main() -> Result<(), Refusal> {
         "{} repaired in {} rounds, {} left",
         run.steps, run.rounds, run.left
     );
+    print_reads(&session);
 
     // every live node is named: an empty list would give an empty box
     let list = session.live_nodes_to_vec()?;
@@ -58,6 +60,16 @@ fn store(object: &[u8]) -> Result<Vec<u8>, Refusal> {
     let bytes = session.write_to_vec(&nodes, &kept)?;
     println!("wrote a box of {} bytes", bytes.len());
     Ok(bytes)
+}
+
+/// The session counts how often each node's block was read by steps, those of a run included.
+fn print_reads(session: &Session) {
+    let counts = session.reads().iter().enumerate();
+    let read: Vec<String> = counts
+        .filter(|(_, count)| **count > 0)
+        .map(|(node, count)| format!("{count} of node {node}"))
+        .collect();
+    println!("reads in {} steps: {}", session.steps(), read.join(", "));
 }
 
 fn print_plan(session: &Session) -> Result<(), Refusal> {

@@ -180,8 +180,8 @@ impl Session {
         box_len(self.0.family, self.0.k, self.0.len, held)
     }
 
-    /// 13 where no start gives the session. The library says so: a run has two checks, and as no nodes buffer is empty, one
-    /// with an empty buffer gives 13 or 6 and goes no further.
+    /// 13, or nothing. The library says which: a run has two checks, and as no nodes buffer is empty, one with an empty buffer
+    /// gives 13 or 6 and goes no further.
     fn check_session(&self) -> Result<(), Refusal> {
         match Refusal::from_number(raw::run(self.0, &mut []).refusal) {
             Some(Refusal::NoSuchSession) => Err(Refusal::NoSuchSession),

@@ -54,6 +54,9 @@
 //! node is at hand: a [`start`](Session::start) with the list 1 to n says so. For a node that is lost or found damaged later,
 //! start anew without it.
 //!
+//! A session also counts, from 0 at the start: [`reads`](Session::reads) says how often each node's block was read by steps, those of
+//! a run included, and [`steps`](Session::steps) how many steps there were. The counts can be read off at any time.
+//!
 //! # Objects interleaved
 //!
 //! Damage to a data block falls on L bytes of the object in a row, or on every k-th byte where the object was interleaved.

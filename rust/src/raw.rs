@@ -4,22 +4,25 @@
 use core::fmt;
 
 /// `MOGTRIZ_VERSION` of the header that this is declared from.
-pub const VERSION: usize = 4;
+pub const VERSION: usize = 5;
 
-/// How many marks a session holds, by node number.
+/// How many marks a session holds, by node number, and how many counts of reads.
 pub const MARKS: usize = 256;
 
 /// The largest number that a refusal has; tables by number have a place for each up to it, and for 0.
 pub const MOST_REFUSAL: usize = 14;
 
-/// C's `mogtriz_session`: 1 marks a live node and 0 a missing one, and a caller may hand in anything.
+/// C's `mogtriz_session`: 1 marks a live node and 0 a missing one, `steps` and `reads` are counted since the start, and a caller may
+/// hand in anything.
 #[repr(C)]
 #[derive(Clone, Copy, PartialEq, Eq, Hash)]
 pub struct Session {
     pub family: usize,
     pub k: usize,
     pub len: usize,
+    pub steps: usize,
     pub live: [u8; MARKS],
+    pub reads: [u16; MARKS],
 }
 
 /// C's `mogtriz_started`: what a start or a box gives.
@@ -84,12 +87,19 @@ pub struct Converted {
     pub length: usize,
 }
 
-/// Family, k, L, and the marks that are not 0, as most are.
+/// Family, k, L, the marks that are not 0, as most are, the steps, and the reads that are not 0.
 impl fmt::Debug for Session {
     fn fmt(&self, f: &mut fmt::Formatter) -> fmt::Result {
         write!(f, "family {} k {} L {} ", self.family, self.k, self.len)?;
         let marked = self.live.iter().enumerate().filter(|(_, mark)| **mark != 0);
-        f.debug_map().entries(marked).finish()
+        f.debug_map().entries(marked).finish()?;
+        write!(f, " steps {} reads ", self.steps)?;
+        let read = self
+            .reads
+            .iter()
+            .enumerate()
+            .filter(|(_, count)| **count != 0);
+        f.debug_map().entries(read).finish()
     }
 }
 

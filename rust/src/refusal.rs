@@ -39,7 +39,8 @@ pub enum Refusal {
     AlreadyLive,
     /// 12: a node to be read is missing.
     NodeMissing,
-    /// 13: no start gives this session.
+    /// 13: the session's contents are out of range or do not agree. [`Session::from_parts`](crate::Session::from_parts) has all the
+    /// conditions.
     NoSuchSession,
     /// 14: a data block's node is missing at read out.
     BlockMissing {
@@ -143,7 +144,7 @@ impl Refusal {
             Refusal::NotRelated => "the three nodes of the step are not related",
             Refusal::AlreadyLive => "the node to repair is live",
             Refusal::NodeMissing => "a node to be read is missing",
-            Refusal::NoSuchSession => "no start gives this session",
+            Refusal::NoSuchSession => "the session's contents are out of range or do not agree",
             Refusal::BlockMissing { .. } => "the node of a data block is missing",
             Refusal::Unnamed { .. } => "a reason that has no name in this package",
         }

@@ -25,7 +25,8 @@ impl Session {
     /// One repair, from a pair of nodes that the caller names.
     ///
     /// It takes a nodes buffer of exactly n × L bytes, the missing node, and two live nodes that are related to it, in
-    /// either order. The node's block becomes the XOR of theirs, and the node becomes live; no other byte is written.
+    /// either order. The node's block becomes the XOR of theirs, and the node becomes live; no other byte is written. The step is
+    /// counted in [`steps`](Session::steps), and the pair in [`reads`](Session::reads).
     ///
     /// # Errors
     ///
@@ -91,8 +92,9 @@ impl Session {
     /// The plan carried out.
     ///
     /// It takes a nodes buffer of exactly n × L bytes, writes the blocks of the repaired nodes and marks these live. It
-    /// gives the plan's counts. Blocks of live nodes and places of nodes left keep their bytes. A live block is taken to
-    /// be what it says: damage to it is not noticed, and goes into the blocks repaired from it.
+    /// gives the plan's counts, and every step of the plan is counted in the session as [`step`](Session::step) counts one.
+    /// Blocks of live nodes and places of nodes left keep their bytes. A live block is taken to be what it says: damage to it is
+    /// not noticed, and goes into the blocks repaired from it.
     ///
     /// # Errors
     ///
@@ -107,7 +109,7 @@ impl Session {
     /// let repairs = session.run(&mut nodes)?;
     /// assert_eq!(nodes, [1, 2, 3, 4, 5, 6, 7]);
     /// assert_eq!((repairs.steps, repairs.rounds, repairs.left), (4, 2, 0));
-    /// assert_eq!(session.missing_nodes().count(), 0);
+    /// assert_eq!((session.steps(), session.missing_nodes().count()), (4, 0));
     /// # Ok::<(), mogtriz::Refusal>(())
     /// ```
     pub fn run(&mut self, nodes: &mut [u8]) -> Result<Repairs, Refusal> {

@@ -2,20 +2,23 @@
 use crate::{Refusal, node_count, raw};
 use core::fmt;
 
-/// How many marks a session holds, by node number; those for 0 and above n are never live.
+/// How many marks a session holds, by node number, and how many counts of reads; those for 0 and above n are never live, and never
+/// counted.
 ///
 /// ```
 /// let session = mogtriz::Session::start(mogtriz::SIMPLEX, 3, 4, &[1, 2, 4])?;
 /// assert_eq!(session.marks().len(), mogtriz::MARKS);
+/// assert_eq!(session.reads().len(), mogtriz::MARKS);
 /// # Ok::<(), mogtriz::Refusal>(())
 /// ```
 pub const MARKS: usize = raw::MARKS;
 
-/// A family, k, L, and a mark for each node: live or missing.
+/// A family, k, L, and a mark for each node: live or missing. Besides, how often each node's block was read by steps, and how many
+/// steps were made since the start.
 ///
 /// [`start`](Session::start) makes one from a list of live nodes, [`check`](Session::check) and [`read`](Session::read) from
 /// a box. [`step`](Session::step) and [`run`](Session::run) change it where they are served, and leave it where they are
-/// turned away; no other call changes it.
+/// turned away; no other call changes it. They count too: [`steps`](Session::steps) and [`reads`](Session::reads) say how often.
 ///
 /// A session is no `Copy`, so that a call cannot work on a copy from before another call by mistake. A clone is such a
 /// copy, made on purpose.
@@ -29,6 +32,10 @@ pub const MARKS: usize = raw::MARKS;
 /// session.step(&mut nodes, 6, [1, 7])?;
 /// assert_eq!(nodes, [1, 0, 0, 4, 5, 6, 7]);
 /// assert!(session.missing_nodes().eq([2, 3]));
+///
+/// // node 1 was made from 4 and 5, and node 6 from 1 and 7; the step that was turned away read nothing
+/// assert_eq!(session.steps(), 2);
+/// assert_eq!(session.reads()[..8], [0, 1, 0, 0, 1, 1, 0, 1]);
 /// # Ok::<(), mogtriz::Refusal>(())
 /// ```
 #[derive(Clone, PartialEq, Eq, Hash)]
@@ -37,7 +44,7 @@ pub struct Session(pub(crate) raw::Session);
 impl Session {
     /// A session in which the nodes of a list are live and all others missing.
     ///
-    /// It takes a family, k, L in bytes, and the list, a byte a node, strictly rising; an empty list sets none live.
+    /// It takes a family, k, L in bytes, and the list, a byte a node, strictly rising; an empty list sets none live. Its counts are 0.
     ///
     /// # Errors
     ///
@@ -53,6 +60,7 @@ impl Session {
     /// use mogtriz::{MOST_LEN, Refusal, SIMPLEX, Session};
     /// let session = Session::start(SIMPLEX, 3, MOST_LEN, &[1, 2, 7])?;
     /// assert!(session.is_live(7) && !session.is_live(3));
+    /// assert_eq!((session.steps(), session.reads()), (0, &[0; mogtriz::MARKS]));
     ///
     /// assert_eq!(Session::start(SIMPLEX, 3, MOST_LEN + 1, &[1, 2, 7]), Err(Refusal::LenOutOfRange));
     /// # Ok::<(), mogtriz::Refusal>(())
@@ -61,30 +69,85 @@ impl Session {
         Session::from_answer(&raw::start(family, k, len, list))
     }
 
-    /// A session of any content, from a family, k, L and the marks by node number, 1 live and 0 missing.
+    /// A session of any content, from a family, k, L, the steps since the start, the marks by node number, 1 live and 0 missing,
+    /// and how often each node was read.
     ///
-    /// What no start gives is taken here, and turned away with 13, [`Refusal::NoSuchSession`], by each call that it is
-    /// handed to: a number out of range, a mark for 0 or above n that is live, or a mark that is neither 0 nor 1.
+    /// Anything is taken here. Each call that the session is handed to turns it away with 13, [`Refusal::NoSuchSession`], where one
+    /// of these holds, and in no other case, whether a start leads to the session or not:
+    ///
+    /// - the family, k or L is out of range
+    /// - a mark for 0 or above n is live, or a mark is neither 0 nor 1
+    /// - the reads do not sum to twice the steps
+    /// - a read count stands against 0 or above n
+    /// - the steps and the missing nodes of 1 to n together are more than n
+    ///
+    /// No sum wraps, however large the counts are. So there are at most n steps in a session that is taken, and a count is at most
+    /// 510.
     ///
     /// ```
     /// use mogtriz::{MARKS, Refusal, SIMPLEX, Session};
-    /// let mut marks = [0; MARKS];
+    /// let (mut marks, mut reads) = ([0; MARKS], [0; MARKS]);
     /// marks[2] = 1;
-    /// let session = Session::from_parts(SIMPLEX, 3, 4, marks);
+    /// let session = Session::from_parts(SIMPLEX, 3, 4, 0, marks, reads);
     /// assert_eq!(session, Session::start(SIMPLEX, 3, 4, &[2])?);
     ///
+    /// // a step reads two nodes, and here one was read twice: no start leads there, and the session is taken all the same
+    /// reads[2] = 2;
+    /// let session = Session::from_parts(SIMPLEX, 3, 4, 1, marks, reads);
+    /// assert!(session.plan(&mut []).is_ok());
+    /// // two steps read four, and two steps with six of seven nodes missing are too many
+    /// let session = Session::from_parts(SIMPLEX, 3, 4, 2, marks, reads);
+    /// assert_eq!(session.plan(&mut []), Err(Refusal::NoSuchSession));
+    /// reads[2] = 4;
+    /// let session = Session::from_parts(SIMPLEX, 3, 4, 2, marks, reads);
+    /// assert_eq!(session.plan(&mut []), Err(Refusal::NoSuchSession));
+    ///
     /// marks[2] = 2;
-    /// let session = Session::from_parts(SIMPLEX, 3, 4, marks);
+    /// let session = Session::from_parts(SIMPLEX, 3, 4, 0, marks, [0; MARKS]);
     /// assert_eq!(session.plan(&mut []), Err(Refusal::NoSuchSession));
     /// # Ok::<(), mogtriz::Refusal>(())
     /// ```
+    ///
+    /// A node that is lost later becomes missing where its mark is handed in as 0. The steps since the start stay then: a repair
+    /// leaves the sum of steps and missing nodes as it was, a node that is lost adds one, and once the sum is above n the session is
+    /// turned away. A [`start`](Session::start) with the list of the nodes still live begins again with zero counts;
+    /// [`live_nodes`](Session::live_nodes) has them in a session of any content.
+    ///
+    /// ```
+    /// # #[cfg(feature = "alloc")] {
+    /// use mogtriz::{Refusal, SIMPLEX, Session};
+    /// let mut session = Session::start(SIMPLEX, 3, 1, &[4, 5, 7])?;
+    /// let mut nodes = [0, 0, 0, 4, 5, 0, 7];
+    /// session.run(&mut nodes)?;
+    ///
+    /// // after the four steps of the run four nodes are lost: together that is more than seven
+    /// let (steps, mut marks, reads) = (session.steps(), *session.marks(), *session.reads());
+    /// marks[4..].fill(0);
+    /// let mut session = Session::from_parts(SIMPLEX, 3, 1, steps, marks, reads);
+    /// assert_eq!(session.run(&mut nodes), Err(Refusal::NoSuchSession));
+    ///
+    /// let still_live: Vec<u8> = session.live_nodes().collect();
+    /// let session = Session::start(SIMPLEX, 3, 1, &still_live)?;
+    /// assert_eq!((session.steps(), session.missing_nodes().count()), (0, 4));
+    /// # }
+    /// # Ok::<(), mogtriz::Refusal>(())
+    /// ```
     #[must_use]
-    pub fn from_parts(family: usize, k: usize, len: usize, marks: [u8; MARKS]) -> Session {
+    pub fn from_parts(
+        family: usize,
+        k: usize,
+        len: usize,
+        steps: usize,
+        marks: [u8; MARKS],
+        reads: [u16; MARKS],
+    ) -> Session {
         Session(raw::Session {
             family,
             k,
             len,
+            steps,
             live: marks,
+            reads,
         })
     }
 
@@ -122,6 +185,42 @@ impl Session {
     #[must_use]
     pub fn block_len(&self) -> usize {
         self.0.len
+    }
+
+    /// How many steps were accepted since the start, those of a run included.
+    ///
+    /// ```
+    /// let mut session = mogtriz::Session::start(mogtriz::SIMPLEX, 3, 1, &[4, 5, 7])?;
+    /// let mut nodes = [0, 0, 0, 4, 5, 0, 7];
+    /// session.step(&mut nodes, 6, [1, 7]).unwrap_err();
+    /// assert_eq!(session.steps(), 0);
+    /// session.step(&mut nodes, 1, [4, 5])?;
+    /// assert_eq!(session.steps(), 1);
+    /// assert_eq!(session.run(&mut nodes)?.steps, 3);
+    /// assert_eq!(session.steps(), 4);
+    /// # Ok::<(), mogtriz::Refusal>(())
+    /// ```
+    #[must_use]
+    pub fn steps(&self) -> usize {
+        self.0.steps
+    }
+
+    /// The reads by node number: how often the node's block was read by the steps since the start, those of a run included. A step
+    /// reads its two sources once each, so that the reads sum to twice the [`steps`](Session::steps). Calls other than step and run
+    /// count nothing: a read out and a write read blocks too, and are not in it.
+    ///
+    /// ```
+    /// let mut session = mogtriz::Session::start(mogtriz::SIMPLEX, 3, 1, &[4, 5, 7])?;
+    /// let mut nodes = [0, 0, 0, 4, 5, 0, 7];
+    /// // nodes 1, 2, 3 and 6 are made from 4 and 5, 5 and 7, 4 and 7, and 1 and 7
+    /// session.run(&mut nodes)?;
+    /// session.read_out(&nodes, &mut [0; 3])?;
+    /// assert_eq!(session.reads()[..8], [0, 1, 0, 0, 2, 2, 0, 3]);
+    /// # Ok::<(), mogtriz::Refusal>(())
+    /// ```
+    #[must_use]
+    pub fn reads(&self) -> &[u16; MARKS] {
+        &self.0.reads
     }
 
     /// The marks by node number: 1 live, 0 missing.
@@ -183,7 +282,15 @@ impl Session {
     }
 }
 
-/// Family, k, L, and the marks that are not 0.
+/// Family, k, L, the marks that are not 0, the steps, and the reads that are not 0.
+///
+/// ```
+/// let mut session = mogtriz::Session::start(mogtriz::SIMPLEX, 2, 1, &[1, 3])?;
+/// session.run(&mut [1, 0, 3])?;
+/// let text = "family 1 k 2 L 1 {1: 1, 2: 1, 3: 1} steps 1 reads {1: 1, 3: 1}";
+/// assert_eq!(format!("{session:?}"), text);
+/// # Ok::<(), mogtriz::Refusal>(())
+/// ```
 impl fmt::Debug for Session {
     fn fmt(&self, f: &mut fmt::Formatter) -> fmt::Result {
         self.0.fmt(f)

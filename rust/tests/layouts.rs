@@ -29,7 +29,7 @@ fn size_of_field<Of, Field>(_: fn(&Of) -> &Field) -> usize {
 fn layouts_in_rust() -> String {
     [
         format!("version {}\n", mogtriz::version()),
-        layout!("mogtriz_session" Session { family, k, len, live }),
+        layout!("mogtriz_session" Session { family, k, len, steps, live, reads }),
         layout!("mogtriz_started" Started { refusal, session }),
         layout!("mogtriz_written" Written { refusal, length, session }),
         layout!("mogtriz_read_out_answer" ReadOut { refusal, block, session }),

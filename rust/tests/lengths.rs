@@ -158,23 +158,39 @@ fn numbers_out_of_range_are_refused_as_by_a_start() {
     }
 }
 
-/// Sessions with a number out of range, and with marks that no start sets.
+/// Sessions with a number out of range, with marks that none has, and with counts that do not agree.
 #[test]
-fn a_session_of_no_start_has_no_lengths() {
+fn a_session_that_is_turned_away_has_no_lengths() {
+    let with_numbers = |family: usize, k: usize, len: usize| {
+        Session::from_parts(family, k, len, 0, [0; MARKS], [0; MARKS])
+    };
     let with_mark = |node: usize, mark: u8| {
         let mut marks = [0; MARKS];
         marks[node] = mark;
-        Session::from_parts(SIMPLEX, 3, 1, marks)
+        Session::from_parts(SIMPLEX, 3, 1, 0, marks, [0; MARKS])
     };
-    let none = [0; MARKS];
+    let with_reads = |live: usize, steps: usize, node: usize, count: u16| {
+        let (mut marks, mut reads) = ([0; MARKS], [0; MARKS]);
+        marks[1..=live].fill(1);
+        reads[node] = count;
+        Session::from_parts(SIMPLEX, 3, 1, steps, marks, reads)
+    };
+    assert_eq!(with_reads(7, 1, 7, 2).node_count(), Ok(7));
+    assert_eq!(with_reads(3, 3, 7, 6).node_count(), Ok(7));
     let strange = [
-        Session::from_parts(0, 3, 1, none),
-        Session::from_parts(SIMPLEX, 9, 1, none),
-        Session::from_parts(SIMPLEX, 3, MOST_LEN + 1, none),
-        Session::from_parts(SIMPLEX, 3, usize::MAX, none),
+        with_numbers(0, 3, 1),
+        with_numbers(SIMPLEX, 9, 1),
+        with_numbers(SIMPLEX, 3, MOST_LEN + 1),
+        with_numbers(SIMPLEX, 3, usize::MAX),
         with_mark(0, 1),
         with_mark(8, 1),
         with_mark(3, 2),
+        with_reads(7, 1, 7, 1),
+        with_reads(7, 1, 7, 3),
+        with_reads(7, 1 << 63, 7, 0),
+        with_reads(7, 1, 0, 2),
+        with_reads(7, 1, 8, 2),
+        with_reads(3, 4, 7, 8),
     ];
     for session in strange {
         let refused = Err(Refusal::NoSuchSession);

@@ -25,7 +25,7 @@ fn step(node: usize, pair: [usize; 2]) -> Refusal {
 
 /// A call for each refusal, in the order of their numbers.
 fn one_of_each() -> [Refusal; MOST_REFUSAL] {
-    let strange = Session::from_parts(SIMPLEX, 3, 1, [3; MARKS]);
+    let strange = Session::from_parts(SIMPLEX, 3, 1, 0, [3; MARKS], [0; MARKS]);
     [
         start(usize::MAX, 3, 1, &[]),
         start(SIMPLEX, 9, 1, &[]),
@@ -99,7 +99,7 @@ fn a_block_that_is_not_known_is_not_told() {
     assert_eq!(refusal.to_string(), text);
 }
 
-/// Two words, where a session beside it would be 35.
+/// Two words, where a session beside it would be 100.
 #[test]
 fn a_refusal_is_small() {
     assert!(size_of::<Refusal>() <= 16);
@@ -107,8 +107,11 @@ fn a_refusal_is_small() {
 
 #[test]
 fn a_refused_call_leaves_its_session() {
-    let of_no_start = Session::from_parts(usize::MAX, 0, 5, [255; MARKS]);
-    for before in [of_no_start, session(&[4, 5, 7])] {
+    let of_any_content =
+        Session::from_parts(usize::MAX, 0, 5, usize::MAX, [255; MARKS], [65_535; MARKS]);
+    let mut counted = session(&[2, 4, 7]);
+    counted.step(&mut [0; 7], 5, [2, 7]).expect("a sound step");
+    for before in [of_any_content, session(&[4, 5, 7]), counted] {
         let mut after = before.clone();
         after.run(&mut [0; 3]).unwrap_err();
         assert_eq!(after, before);
@@ -126,7 +129,9 @@ fn a_refused_start_or_box_gives_a_session_of_zeros() {
         family: 0,
         k: 0,
         len: 0,
+        steps: 0,
         live: [0; MARKS],
+        reads: [0; MARKS],
     };
     assert_eq!(raw::start(SIMPLEX, 3, 1, &[3, 3]).session, zeros);
     assert_eq!(raw::check(&[]).session, zeros);

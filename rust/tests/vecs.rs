@@ -28,8 +28,9 @@ fn sessions((family, k, len): (usize, usize, usize)) -> Vec<Session> {
         .collect()
 }
 
-fn of_no_start() -> Session {
-    Session::from_parts(SIMPLEX, 3, usize::MAX, [1; MARKS])
+/// A session that every call gives 13 for.
+fn turned_away() -> Session {
+    Session::from_parts(SIMPLEX, 3, usize::MAX, 0, [1; MARKS], [0; MARKS])
 }
 
 #[test]
@@ -136,7 +137,7 @@ fn boxes_are_converted_and_refused_alike() -> Result<(), Refusal> {
 
 #[test]
 fn live_nodes_are_listed_alike() {
-    for session in CODES.into_iter().flat_map(sessions).chain([of_no_start()]) {
+    for session in CODES.into_iter().flat_map(sessions).chain([turned_away()]) {
         let mut out = [0; MOST_NODES];
         let wanted = session
             .live_nodes_into(&mut out)
@@ -147,7 +148,7 @@ fn live_nodes_are_listed_alike() {
 
 #[test]
 fn boxes_are_refused_alike() {
-    for session in CODES.into_iter().flat_map(sessions).chain([of_no_start()]) {
+    for session in CODES.into_iter().flat_map(sessions).chain([turned_away()]) {
         let nodes = bytes(session.nodes_len().unwrap_or(0));
         let mut out = vec![0; 8 + 255 * (MOST_LEN + 1)];
         let long = [1; 300];
@@ -168,7 +169,7 @@ fn boxes_are_refused_alike() {
 
 #[test]
 fn objects_are_read_out_alike() {
-    for session in CODES.into_iter().flat_map(sessions).chain([of_no_start()]) {
+    for session in CODES.into_iter().flat_map(sessions).chain([turned_away()]) {
         let nodes = bytes(session.nodes_len().unwrap_or(0));
         let mut object = vec![0; session.object_len().unwrap_or(0)];
         for nodes in [&nodes[..], &[0; 2]] {
@@ -181,7 +182,7 @@ fn objects_are_read_out_alike() {
 
 #[test]
 fn repairs_are_planned_alike() {
-    for session in CODES.into_iter().flat_map(sessions).chain([of_no_start()]) {
+    for session in CODES.into_iter().flat_map(sessions).chain([turned_away()]) {
         let mut out = [0; PLAN_ROOM];
         let plan = session.plan(&mut out);
         let wanted = plan.map(|plan| (plan.repairs, plan.steps().collect()));
