@@ -10,10 +10,12 @@ pub const NO_SESSION: Session = Session {
     family: 0,
     k: 0,
     len: 0,
+    steps: 0,
     live: [0; MARKS],
+    reads: [0; MARKS],
 };
 
-/// The session with these nodes live.
+/// The session with these nodes live, and nothing counted.
 pub fn session(family: usize, k: usize, len: usize, list: &[u8]) -> Session {
     let mut session = Session {
         family,
@@ -32,7 +34,7 @@ pub fn live_nodes(session: &Session) -> Vec<u8> {
     (0..=255).filter(|&node| is_live(session, node)).collect()
 }
 
-/// The numbers from 1 to n that are not live, in a session that a start gives.
+/// The numbers from 1 to n that are not live, in a session with family and k in range.
 pub fn missing_nodes(session: &Session) -> Vec<u8> {
     let n = node_count(session.family, session.k);
     let nodes = (1..=255).take(n);
@@ -204,14 +206,27 @@ impl Contents<'_> {
     }
 }
 
-/// n, or 13 where no start gives the session.
+/// n, or 13: a number is out of range, a mark is none or stands against 0 or above n, or the counts do not agree (document 02, K8).
 pub fn check_session(session: &Session) -> Result<usize, u8> {
     let n = checked_node_count(session.family, session.k, session.len).map_err(|_| 13)?;
     let no_mark = session.live.iter().any(|&mark| mark > 1);
     if no_mark || session.live[0] != 0 || session.live[n + 1..].contains(&1) {
         return Err(13);
     }
+    if !counts_agree(session, n) {
+        return Err(13);
+    }
     Ok(n)
+}
+
+/// Whether the reads sum to twice the steps, none of them stands against 0 or above n, and the steps with the missing nodes are at most
+/// n. The sums are those of mathematics, for which 128 bits have room.
+fn counts_agree(session: &Session, n: usize) -> bool {
+    let steps = session.steps as u128;
+    let reads: u128 = session.reads.iter().map(|&count| u128::from(count)).sum();
+    let outside = session.reads[0] > 0 || session.reads[n + 1..].iter().any(|&count| count > 0);
+    let missing = missing_nodes(session).len() as u128;
+    reads == 2 * steps && !outside && steps + missing <= n as u128
 }
 
 /// n, or the first of 13 and 6 for the nodes that is met.

@@ -4,6 +4,7 @@
 
 pub mod boxes;
 pub mod calls;
+pub mod counted;
 pub mod graded;
 pub mod guarded;
 pub mod interleaving;

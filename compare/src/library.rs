@@ -119,9 +119,11 @@ pub fn handed_in(session: Session) -> mogtriz::Session {
         family,
         k,
         len,
+        steps,
         live,
+        reads,
     } = session;
-    mogtriz::Session::from_parts(family, k, len, live)
+    mogtriz::Session::from_parts(family, k, len, steps, live, reads)
 }
 
 fn left_of(session: &mogtriz::Session) -> Session {
@@ -129,7 +131,9 @@ fn left_of(session: &mogtriz::Session) -> Session {
         family: session.family(),
         k: session.k(),
         len: session.block_len(),
+        steps: session.steps(),
         live: *session.marks(),
+        reads: *session.reads(),
     }
 }
 

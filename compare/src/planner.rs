@@ -20,7 +20,7 @@ pub fn step(session: Session, nodes: &mut [u8], triple: [usize; 3]) -> Stepped {
             repair(nodes, session.len, triple);
             Stepped {
                 refusal: 0,
-                session: with_live(session, triple[0]),
+                session: after_step(session, triple),
             }
         }
         Err(refusal) => Stepped { refusal, session },
@@ -51,7 +51,7 @@ pub fn run(session: Session, nodes: &mut [u8]) -> Repairs {
     }
 }
 
-/// The plan of a session that a start gives.
+/// The plan of a session that is taken.
 pub fn plan_of(session: &Session) -> Plan {
     let mut plan = Plan {
         steps: Vec::new(),
@@ -64,8 +64,8 @@ pub fn plan_of(session: &Session) -> Plan {
             return plan;
         }
         plan.rounds += 1;
-        for &[_, node, ..] in &steps {
-            plan.session = with_live(plan.session, node);
+        for &[_, node, smaller, larger] in &steps {
+            plan.session = after_step(plan.session, [node, smaller, larger]);
         }
         plan.steps.extend(steps);
     }
@@ -135,8 +135,14 @@ fn repair(nodes: &mut [u8], len: usize, triple: [u8; 3]) {
     nodes[node].copy_from_slice(&block);
 }
 
-fn with_live(mut session: Session, node: u8) -> Session {
-    session.live[usize::from(node)] = 1;
+/// The session once a step is made: its node is live, and the step and a read of each of its two sources are counted (document 02,
+/// K8).
+fn after_step(mut session: Session, triple: [u8; 3]) -> Session {
+    let [node, first, second] = triple.map(usize::from);
+    session.live[node] = 1;
+    session.steps += 1;
+    session.reads[first] += 1;
+    session.reads[second] += 1;
     session
 }
 

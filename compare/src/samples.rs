@@ -1,5 +1,6 @@
 //! Shapes, node lists, sessions and lengths to call the library with, sound and faulty.
 use crate::boxes;
+use crate::counted::{agreeing, spoil_counts};
 use crate::papers::{MOST_LENGTH, node_count};
 use crate::random::Random;
 use mogtriz::raw::{MARKS, Session};
@@ -180,7 +181,7 @@ pub fn wrong_len(right: usize, random: &mut Random) -> usize {
     *random.of(&[0, most, most + 1, 4096, 65_535, 65_536, other])
 }
 
-/// A session of any content, near to one that a start gives or far from it.
+/// A session of any content, near to one that is taken or far from it.
 pub fn spoiled_session(session: Session, n: usize, random: &mut Random) -> Session {
     let mut spoiled = session;
     for _ in 0..1 + random.below(2) {
@@ -192,7 +193,7 @@ pub fn spoiled_session(session: Session, n: usize, random: &mut Random) -> Sessi
 fn spoil_session(session: &mut Session, n: usize, random: &mut Random) {
     let place = random.below(MARKS);
     let no_mark = *random.of(&[2, 3, 128, 254, 255]);
-    match random.below(9) {
+    match random.below(14) {
         0 => session.family = wrong_number(session.family, random),
         1 => session.k = wrong_number(session.k, random),
         2 => session.len = wrong_len(session.len, random),
@@ -201,28 +202,32 @@ fn spoil_session(session: &mut Session, n: usize, random: &mut Random) {
         5 => session.live[place] = 1,
         6 => session.live[place] = no_mark,
         7 => session.live[random.below(n + 1)] = no_mark,
-        _ => session.live.copy_from_slice(&random.bytes(MARKS)),
+        8 => session.live.copy_from_slice(&random.bytes(MARKS)),
+        _ => spoil_counts(session, n, random),
     }
 }
 
-/// A session that a start gives.
+/// A session that is taken: one that a start gives, or one with counts.
 pub fn sound_session(shape: Shape, random: &mut Random) -> Session {
-    shape.session(&some_of(&shape.all_nodes(), random))
+    let session = shape.session(&some_of(&shape.all_nodes(), random));
+    agreeing(session, shape.n(), random)
 }
 
-/// A session of any content: one that a start gives with something changed, or nothing but random numbers.
+/// A session of any content: one that is taken with something changed, or nothing but random numbers.
 pub fn any_session(shape: Shape, random: &mut Random) -> Session {
     if random.below(10) > 0 {
         return spoiled_session(sound_session(shape, random), shape.n(), random);
     }
     let mut live = [0; MARKS];
     live.copy_from_slice(&random.bytes(MARKS));
-    let [family, k, len] = [(); 3].map(|()| random.wide());
+    let [family, k, len, steps] = [(); 4].map(|()| random.wide());
     Session {
         family,
         k,
         len,
+        steps,
         live,
+        reads: std::array::from_fn(|_| random.wide() as u16),
     }
 }
 

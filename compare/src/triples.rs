@@ -8,7 +8,7 @@ use mogtriz::raw::Session;
 
 type Triple = [usize; 3];
 
-/// A step that is accepted in a session that a start gives, if there is one: a missing node with any of its
+/// A step that is accepted in a session that is taken, if there is one: a missing node with any of its
 /// pairs, in either order.
 pub fn right_triple(session: &Session, random: &mut Random) -> Option<Triple> {
     let mut missing = missing_nodes(session);

@@ -1,16 +1,18 @@
 //! Lists of steps and runs, right and wrong ones, each getting the session that the one before gave back: what is
-//! missing once no pair is left are the nodes that were open at the start, and runs and plans count just these.
+//! missing once no pair is left are the nodes that were open at the start, and runs and plans count just these. A node's count of reads
+//! is how many of the accepted steps read it.
 use compare::boxes::{check_session, live_nodes, missing_nodes};
 use compare::calls;
+use compare::counted::agreeing;
 use compare::live_sets::LiveSets;
 use compare::open::open_nodes;
 use compare::papers::every_code;
-use compare::planner::pairs;
+use compare::planner::{pairs, plan_of};
 use compare::random::Random;
 use compare::samples::{Shape, any_session, length_near};
 use compare::tally::Tally;
 use compare::triples::{any_triple, right_triple};
-use mogtriz::raw::Session;
+use mogtriz::raw::{MARKS, Session};
 
 /// Room for the steps of any plan.
 const ROOM: usize = 4 * 255;
@@ -22,7 +24,8 @@ struct Seen {
     plan: Tally,
     lists: usize,
     empty: usize,
-    without_start: usize,
+    turned_away: usize,
+    with_reads: usize,
     at_the_end: usize,
     by_steps_alone: usize,
     with_open: usize,
@@ -37,7 +40,8 @@ impl Seen {
             plan: Tally::of("plan"),
             lists: 0,
             empty: 0,
-            without_start: 0,
+            turned_away: 0,
+            with_reads: 0,
             at_the_end: 0,
             by_steps_alone: 0,
             with_open: 0,
@@ -55,7 +59,8 @@ impl Seen {
         let counts = [
             ("lists", self.lists),
             ("of no call", self.empty),
-            ("from a session of no start", self.without_start),
+            ("from a session that gives 13", self.turned_away),
+            ("with reads counted", self.with_reads),
             ("ended with no pair left", self.at_the_end),
             ("of these by steps alone, some made", self.by_steps_alone),
             ("of these with open nodes", self.with_open),
@@ -77,8 +82,11 @@ struct List {
     shape: Shape,
     session: Session,
     nodes: Vec<u8>,
-    /// The open nodes, unless no start gives the first session.
+    /// The open nodes, unless the first session is turned away.
     open: Option<Vec<u8>>,
+    /// The counts of the first session, and what the accepted steps since then add to them.
+    counted_steps: usize,
+    counted_reads: [u16; MARKS],
     steps: usize,
     runs: usize,
 }
@@ -91,6 +99,8 @@ impl List {
             session,
             nodes: random.bytes(shape.nodes_len()),
             open: check_session(&session).ok().map(open),
+            counted_steps: session.steps,
+            counted_reads: session.reads,
             steps: 0,
             runs: 0,
         }
@@ -114,8 +124,19 @@ impl List {
         let session = self.session;
         let stepped = self.lend(random, |nodes| calls::step(session, nodes, triple));
         self.session = stepped.session;
-        self.steps += usize::from(stepped.refusal == 0);
+        if stepped.refusal == 0 {
+            self.steps += 1;
+            self.count([triple[1], triple[2]]);
+        }
         seen.step.add(stepped.refusal);
+    }
+
+    /// A step that reads two nodes is accepted.
+    fn count(&mut self, pair: [usize; 2]) {
+        self.counted_steps += 1;
+        for node in pair {
+            self.counted_reads[node] += 1;
+        }
     }
 
     fn run(&mut self, random: &mut Random, seen: &mut Seen) {
@@ -125,6 +146,9 @@ impl List {
         seen.run.add(run.refusal);
         if run.refusal == 0 {
             self.compare_left(run.left);
+            for [_, _, smaller, larger] in plan_of(&session).steps {
+                self.count([smaller, larger].map(usize::from));
+            }
             self.runs += 1;
             seen.runs_after_steps += usize::from(self.steps > 0);
         }
@@ -132,7 +156,7 @@ impl List {
 
     /// What an accepted run or plan gives as left is the number of open nodes.
     fn compare_left(&self, left: usize) {
-        let open = self.open.as_ref().expect("no start gives this session");
+        let open = self.open.as_ref().expect("a session that is taken");
         assert_eq!(left, open.len(), "{:?} open {open:?}", self.session);
     }
 
@@ -166,10 +190,19 @@ impl List {
     fn finish(self, random: &mut Random, seen: &mut Seen) {
         seen.lists += 1;
         self.compare_plans(random, seen);
+        self.compare_counts();
         let Some(open) = &self.open else {
-            seen.without_start += 1;
+            seen.turned_away += 1;
             return;
         };
+        let sum: usize = self
+            .session
+            .reads
+            .iter()
+            .map(|&count| usize::from(count))
+            .sum();
+        assert_eq!(sum, 2 * self.session.steps, "{:?}", self.session);
+        seen.with_reads += usize::from(sum > 0);
         if self.pair_left() {
             return;
         }
@@ -177,6 +210,13 @@ impl List {
         seen.at_the_end += 1;
         seen.by_steps_alone += usize::from(self.runs == 0 && self.steps > 0);
         seen.with_open += usize::from(!open.is_empty());
+    }
+
+    /// What is counted are the accepted steps and their reads, and nothing where the first session is turned away.
+    fn compare_counts(&self) {
+        let Session { steps, reads, .. } = &self.session;
+        assert_eq!(*steps, self.counted_steps, "{:?}", self.session);
+        assert_eq!(reads, &self.counted_reads, "{:?}", self.session);
     }
 
     /// Plans made after the list, with room enough and with some that may be too little.
@@ -238,6 +278,18 @@ fn lists_to_the_end(count: usize, shapes: &[Shape], random: &mut Random, seen: &
     }
 }
 
+/// Lists from a session with counts that agree, whether a start leads to it or not.
+fn lists_from_counts(count: usize, shapes: &[Shape], random: &mut Random, seen: &mut Seen) {
+    for _ in 0..count {
+        let shape = *random.of(shapes);
+        let start = shape.session(&any_set(shape, random));
+        let session = agreeing(start, shape.n(), random);
+        let mut list = List::from(session, shape, random);
+        (0..6).for_each(|_| list.any_call(random, seen));
+        list.finish(random, seen);
+    }
+}
+
 /// Lists from a session of any content.
 fn lists_from_any_session(count: usize, shapes: &[Shape], random: &mut Random, seen: &mut Seen) {
     for _ in 0..count {
@@ -269,6 +321,9 @@ fn lists_of_calls_leave_the_open_nodes() {
     short_lists(100_000, &some, 8, random, &mut seen);
     seen.begin("lists to the end");
     lists_to_the_end(40_000, &few, random, &mut seen);
+    seen.begin("counts");
+    lists_from_counts(15_000, &some, random, &mut seen);
+    lists_from_counts(1000, &many, random, &mut seen);
     seen.begin("any session");
     lists_from_any_session(15_000, &some, random, &mut seen);
     seen.begin("codes of many nodes");

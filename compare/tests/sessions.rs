@@ -2,6 +2,7 @@
 //! every content and length.
 use compare::boxes::{self, box_len, live_nodes};
 use compare::calls;
+use compare::counted::agreeing;
 use compare::papers::code;
 use compare::random::Random;
 use compare::samples::{
@@ -182,7 +183,7 @@ fn list_each_count(shape: Shape, tally: &mut Tally) {
     }
 }
 
-/// A start's sessions, in which each mark in turn is made live, missing or no mark.
+/// Sessions that are taken, in which each mark in turn is made live, missing or no mark.
 fn sessions_with_each_mark(random: &mut Random) -> Vec<(Shape, Session)> {
     let mut sessions = Vec::new();
     for shape in shapes().into_iter().filter(|shape| shape.len <= 2) {
@@ -192,16 +193,16 @@ fn sessions_with_each_mark(random: &mut Random) -> Vec<(Shape, Session)> {
     sessions
 }
 
-/// A start's session, in which all or all but a few of the data blocks' nodes are live.
+/// A session that is taken, in which all or all but a few of the data blocks' nodes are live.
 fn session_to_read_out(shape: Shape, random: &mut Random) -> Session {
-    let mut session = sound_session(shape, random);
+    let mut session = shape.session(&some_of(&shape.all_nodes(), random));
     let code = code(shape.family, shape.k);
     let missing = random.below(2 * shape.k.min(8));
     for block in 1..=shape.k {
         let lost = random.below(2 * shape.k) < missing;
         session.live[usize::from(code.data_node(block))] = u8::from(!lost);
     }
-    session
+    agreeing(session, shape.n(), random)
 }
 
 #[test]
