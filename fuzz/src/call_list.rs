@@ -1,5 +1,6 @@
 //! A start and a list of calls, each getting the session that the one before gave back; after it, what is missing once no
-//! pair is left are the nodes that were open at the start.
+//! pair is left are the nodes that were open at the start, and what is counted are the accepted steps and their reads.
+use crate::counts::counted;
 use crate::input::Input;
 use crate::seen::Operation::{LiveNodes, Plan, ReadOut, Run, Start, Step, Write};
 use crate::seen::count;
@@ -7,26 +8,39 @@ use compare::boxes::{self, box_len, live_nodes, missing_nodes};
 use compare::calls;
 use compare::open::open_nodes;
 use compare::papers::MOST_LENGTH;
-use compare::planner::pairs;
-use mogtriz::raw::Session;
+use compare::planner::{pairs, plan_of};
+use mogtriz::raw::{MARKS, Session};
 
 struct List {
     session: Session,
     /// As the last call left them.
     nodes: Vec<u8>,
-    /// The nodes open at the start, unless no start gives the session.
+    /// The nodes open at the start, unless the session was changed since then in more than its counts.
     open: Option<Vec<u8>>,
+    /// The counts that the session had when it was last changed, and what the accepted steps since then add to them.
+    steps: usize,
+    reads: [u16; MARKS],
 }
 
 pub fn compare(input: &mut Input) {
+    List::start(input).make_calls(input);
+}
+
+/// The same from a session with counts.
+pub fn compare_counted(input: &mut Input) {
     let mut list = List::start(input);
-    while !input.is_empty() {
-        list.call(input);
-    }
-    list.finish();
+    list.go_on_with(counted(list.session, input));
+    list.make_calls(input);
 }
 
 impl List {
+    fn make_calls(mut self, input: &mut Input) {
+        while !input.is_empty() {
+            self.call(input);
+        }
+        self.finish();
+    }
+
     fn start(input: &mut Input) -> List {
         let [family, k, len] = [(); 3].map(|()| input.number());
         let live = input.list();
@@ -37,6 +51,22 @@ impl List {
             session,
             nodes: (0..nodes_len).map(|place| (place * 31 + 7) as u8).collect(),
             open: (number == 0).then(|| open_nodes(family, k, &live)),
+            steps: session.steps,
+            reads: session.reads,
+        }
+    }
+
+    fn go_on_with(&mut self, session: Session) {
+        self.session = session;
+        self.steps = session.steps;
+        self.reads = session.reads;
+    }
+
+    /// A step that reads two nodes is accepted.
+    fn count_step(&mut self, pair: [usize; 2]) {
+        self.steps += 1;
+        for node in pair {
+            self.reads[node] += 1;
         }
     }
 
@@ -59,8 +89,10 @@ impl List {
 
     fn step(&mut self, triple: [usize; 3]) {
         let stepped = calls::step(self.session, &mut self.nodes, triple);
-        count(Step, stepped.refusal);
         self.session = stepped.session;
+        if count(Step, stepped.refusal) == 0 {
+            self.count_step([triple[1], triple[2]]);
+        }
     }
 
     /// A step that is accepted if the nodes are, where there is one.
@@ -80,10 +112,14 @@ impl List {
     }
 
     fn run(&mut self) {
-        let run = calls::run(self.session, &mut self.nodes);
+        let before = self.session;
+        let run = calls::run(before, &mut self.nodes);
         self.session = run.session;
         if count(Run, run.refusal) == 0 {
             self.compare_left(run.left);
+            for [_, _, smaller, larger] in plan_of(&before).steps {
+                self.count_step([smaller, larger].map(usize::from));
+            }
         }
     }
 
@@ -123,16 +159,26 @@ impl List {
 
     /// A session of any content, to go on with.
     fn change(&mut self, input: &mut Input) {
-        self.open = None;
-        match input.byte() % 4 {
-            0 => self.session.family = input.number(),
-            1 => self.session.k = input.number(),
-            2 => self.session.len = input.number(),
-            _ => self.session.live[usize::from(input.byte())] = input.byte(),
+        let mut session = self.session;
+        let which = input.byte() % 5;
+        match which {
+            0 => session.family = input.number(),
+            1 => session.k = input.number(),
+            2 => session.len = input.number(),
+            3 => session.live[usize::from(input.byte())] = input.byte(),
+            _ => session = counted(session, input),
         }
+        // which nodes are open does not go by the counts
+        if which < 4 {
+            self.open = None;
+        }
+        self.go_on_with(session);
     }
 
     fn finish(self) {
+        let Session { steps, reads, .. } = &self.session;
+        let counted = (*steps, reads) == (self.steps, &self.reads);
+        assert!(counted, "{:?}", self.session);
         let Some(open) = self.open else {
             return;
         };

@@ -3,6 +3,7 @@
 //! rules.
 mod boxed;
 mod call_list;
+mod counts;
 mod input;
 mod interleaved;
 mod seen;
@@ -17,10 +18,11 @@ pub unsafe extern "C" fn LLVMFuzzerTestOneInput(data: *const u8, size: usize) ->
     // SAFETY: as the fuzzer says.
     let bytes = unsafe { std::slice::from_raw_parts(data, size) };
     let mut input = Input(bytes);
-    match input.byte() % 3 {
+    match input.byte() % 4 {
         0 => boxed::compare(&mut input),
         1 => call_list::compare(&mut input),
-        _ => interleaved::compare(&mut input),
+        2 => interleaved::compare(&mut input),
+        _ => call_list::compare_counted(&mut input),
     }
     0
 }
