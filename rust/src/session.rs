@@ -95,9 +95,11 @@ impl Session {
     /// reads[2] = 2;
     /// let session = Session::from_parts(SIMPLEX, 3, 4, 1, marks, reads);
     /// assert!(session.plan(&mut []).is_ok());
-    /// // two steps read four, and two steps with six of seven nodes missing are too many
+    ///
+    /// // two steps read four times
     /// let session = Session::from_parts(SIMPLEX, 3, 4, 2, marks, reads);
     /// assert_eq!(session.plan(&mut []), Err(Refusal::NoSuchSession));
+    /// // with four reads they agree, but two steps and six missing nodes are more than seven
     /// reads[2] = 4;
     /// let session = Session::from_parts(SIMPLEX, 3, 4, 2, marks, reads);
     /// assert_eq!(session.plan(&mut []), Err(Refusal::NoSuchSession));
@@ -114,7 +116,6 @@ impl Session {
     /// [`live_nodes`](Session::live_nodes) has them in a session of any content.
     ///
     /// ```
-    /// # #[cfg(feature = "alloc")] {
     /// use mogtriz::{Refusal, SIMPLEX, Session};
     /// let mut session = Session::start(SIMPLEX, 3, 1, &[4, 5, 7])?;
     /// let mut nodes = [0, 0, 0, 4, 5, 0, 7];
@@ -129,7 +130,6 @@ impl Session {
     /// let still_live: Vec<u8> = session.live_nodes().collect();
     /// let session = Session::start(SIMPLEX, 3, 1, &still_live)?;
     /// assert_eq!((session.steps(), session.missing_nodes().count()), (0, 4));
-    /// # }
     /// # Ok::<(), mogtriz::Refusal>(())
     /// ```
     #[must_use]

@@ -54,6 +54,7 @@ fn store_and_repair() -> Result<(), Refusal> {
     let plan = session.plan(&mut out)?;
     assert!(plan.steps().map(|step| step.node).eq([1, 2, 3, 6]));
     assert!(session.run(&mut nodes)? == plan.repairs);
+    assert!(session.steps() == 4 && session.reads()[..8] == [0, 1, 0, 0, 2, 2, 0, 3]);
 
     let mut read_out = [0; 24];
     session.read_out(&nodes, &mut read_out)?;
