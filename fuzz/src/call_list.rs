@@ -1,10 +1,10 @@
 //! A start and a list of calls, each getting the session that the one before gave back; after it, what is missing once no
 //! pair is left are the nodes that were open at the start, and what is counted are the accepted steps and their reads.
-use crate::counts::counted;
-use crate::input::Input;
+use crate::counts::{beside, counted};
+use crate::input::{Input, MOST_BYTES};
 use crate::seen::Operation::{LiveNodes, Plan, ReadOut, Run, Start, Step, Write};
 use crate::seen::count;
-use compare::boxes::{self, box_len, live_nodes, missing_nodes};
+use compare::boxes::{self, HEAD, box_len, live_nodes, missing_nodes};
 use compare::calls;
 use compare::open::open_nodes;
 use compare::papers::MOST_LENGTH;
@@ -26,10 +26,14 @@ pub fn compare(input: &mut Input) {
     List::start(input).make_calls(input);
 }
 
-/// The same from a session with counts.
+/// The same from a session with counts, after calls with other counts beside them.
 pub fn compare_counted(input: &mut Input) {
     let mut list = List::start(input);
     list.go_on_with(counted(list.session, input));
+    let call = input.byte();
+    for session in beside(list.session) {
+        list.call_once(call, session);
+    }
     list.make_calls(input);
 }
 
@@ -54,6 +58,21 @@ impl List {
             steps: session.steps,
             reads: session.reads,
         }
+    }
+
+    /// One call with another session, after which the list goes on as before.
+    fn call_once(&self, call: u8, session: Session) {
+        let object_len = session.k.saturating_mul(session.len).min(MOST_BYTES);
+        let number = match call % 6 {
+            0 => calls::step(session, &mut self.nodes.clone(), [1, 2, 3]).refusal,
+            1 => calls::run(session, &mut self.nodes.clone()).refusal,
+            2 => calls::plan(session, 4 * 255).refusal,
+            3 => calls::write(session, &self.nodes, &[], HEAD),
+            4 => calls::read_out(session, &self.nodes, object_len),
+            _ => calls::live_nodes(session, 255),
+        };
+        let operations = [Step, Run, Plan, Write, ReadOut, LiveNodes];
+        count(operations[usize::from(call % 6)], number);
     }
 
     fn go_on_with(&mut self, session: Session) {

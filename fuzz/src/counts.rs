@@ -1,7 +1,8 @@
 //! Counts out of the fuzzer's bytes: steps that the marks of a session leave room for and twice as many reads, which are taken for the
-//! most part, and some that are broken.
+//! most part, some that are broken, and some beside any counts.
 use crate::input::Input;
 use compare::boxes::live_nodes;
+use compare::counted::dealt;
 use compare::papers::checked_node_count;
 use mogtriz::raw::{MARKS, Session};
 
@@ -19,6 +20,42 @@ pub fn counted(session: Session, input: &mut Input) -> Session {
         spoil(&mut counted, tag, input);
     }
     counted
+}
+
+/// Sessions with other counts, on both sides of each condition: the reads one too many, or as many as before once cut to 16 bits; a step
+/// more with no read, or with two of node n, of 0 or above n; as many steps as before once twice as many are cut to 32 or 64 bits; and,
+/// with reads that agree, as many steps as there can be, and one more.
+pub fn beside(session: Session) -> [Session; 10] {
+    let n = checked_node_count(session.family, session.k, 1).unwrap_or(1);
+    let most = live_nodes(&session).len();
+    let with = |steps: usize, added: &[(usize, u16)]| {
+        let mut other = session;
+        other.steps = session.steps.wrapping_add(steps);
+        for &(node, count) in added {
+            other.reads[node] = other.reads[node].wrapping_add(count);
+        }
+        other
+    };
+    [
+        with(0, &[(1, 1)]),
+        with(0, &[(1, u16::MAX), (2, 1)]),
+        with(1, &[]),
+        with(1, &[(n, 2)]),
+        with(1, &[(0, 2)]),
+        with(1, &[(usize::min(n + 1, 255), 2)]),
+        with(1 << 31, &[]),
+        with(1 << 63, &[]),
+        of_one_node(session, most),
+        of_one_node(session, most + 1),
+    ]
+}
+
+fn of_one_node(session: Session, steps: usize) -> Session {
+    Session {
+        steps,
+        reads: dealt(2 * steps, &[1]),
+        ..session
+    }
 }
 
 /// So many reads: a node and how many of them are its own, again and again.
