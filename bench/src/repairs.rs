@@ -1,6 +1,6 @@
 //! Planning, timed against the same search in Rust, runs, timed against the same XORs in Rust and by ISA-L, and
 //! against Rust that plans them first, as a run does, and steps, timed against Rust that checks the same of sound
-//! sessions.
+//! sessions. The rivals count no reads.
 use crate::isal;
 use crate::rivals::{self, Family};
 use crate::table::{Line, Table};
