@@ -141,12 +141,12 @@ pub fn live_outside(n: usize, marks: &[bool; 256]) -> bool
     false
 }
 
-// How many of the nodes 1 to n are live.
+// How many of the nodes 1 to n are live. A byte holds the count, so that the compiler can add many marks at a time.
 pub fn count_live(marks: &[bool; 256], n: usize) -> usize
     requires { ⌜ n ≤ 255 ⌝ }
     ensures { λ r. ⌜ r ≡ length (liveNodes (now (marks .entry)) n) ⌝ }
 {
-    let mut count: usize = 0;
+    let mut count: u8 = 0;
     let mut j: usize = 0;
     while j < n {
         j += 1;
@@ -154,7 +154,7 @@ pub fn count_live(marks: &[bool; 256], n: usize) -> usize
             count += 1;
         }
     }
-    count
+    wide(count)
 }
 
 // The live nodes of 1 to n, rising, and zeros after them.

@@ -3,7 +3,9 @@ use crate::Session;
 use crate::Started;
 ghost use mathlib.Core.Path.{_≡_};
 ghost use Prim.Native.Nat.{_≤_};
+ghost use lib.ListN.{length};
 ghost use Rattle.checks.specs.Checks.{firstMet};
+ghost use Rattle.lists.specs.Lists.{liveNodes};
 ghost use Rattle.repair.specs.Session.{refusedStart, startChecks, started, nodeCountOf, miscounted, unsound, nodesChecks};
 
 // A refused start or box: a session of zeros with every mark missing.
@@ -57,14 +59,13 @@ impl Session {
         }
     }
 
-    // Whether the counts cannot stand. Steps and missing nodes exceed n where there are more steps than live nodes; fewer steps
-    // can be doubled.
-    fn is_miscounted(self, n: usize) -> bool
-        requires { ⌜ (n ≡ nodeCountOf self) × (n ≤ 255) ⌝ }
+    // Whether the counts cannot stand, by n and the number of live nodes. Steps and missing nodes exceed n where there are more steps
+    // than live nodes; fewer steps can be doubled.
+    fn is_miscounted(self, n: usize, live: usize) -> bool
+        requires { ⌜ (n ≡ nodeCountOf self) × (n ≤ 255) × (live ≡ length (liveNodes (self .live) n)) ⌝ }
         ensures { λ r. ⌜ r ≡ miscounted self ⌝ }
     {
-        let live = self.live;
-        if lists::count_live(&live, n) < self.steps {
+        if live < self.steps {
             return true;
         }
         let reads = self.reads;
@@ -86,7 +87,7 @@ impl Session {
         if lists::live_outside(n, &live) {
             return true;
         }
-        self.is_miscounted(n)
+        self.is_miscounted(n, lists::count_live(&live, n))
     }
 
     // 13, or 6 for a nodes buffer that is not n × L bytes long, or 0.

@@ -44,7 +44,7 @@ returns c =
     let e : tie.Start Inv-loop μ-loop = search in
     let t : tie.At-loop Inv-loop μ-loop = search in
     let m : t .loop .j ≡ e .args .n = omega arith in
-    t .loop .inv .1 ∙ ap (λ (j : ℕ). length (liveNodes (now (e .args .marks)) j)) m
+    c .wide .ensures ∙ t .loop .inv .1 ∙ ap (λ (j : ℕ). length (liveNodes (now (e .args .marks)) j)) m
 
 pub count-live-spec : {M : Type 1} → statement M
 count-live-spec =
@@ -60,4 +60,5 @@ count-live-spec =
     loop-again
     (λ c. search needs)
     loop-again-2
+    (λ c κs. search needs)
     returns)

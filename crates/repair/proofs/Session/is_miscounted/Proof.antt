@@ -13,46 +13,42 @@ use Rattle.repair.proofs.StartLaws.{miscounted-steps, miscounted-outsid
 use Rattle.repair.proofs.Session.is_miscounted.Statement.{statement}
 use Rattle.repair.proofs.Session.is_miscounted.Tie as tie
 
-abbrev start : tie.After-count-live → tie.Start
-start c = c .before .before .before
+abbrev start : tie.After-counted-outside → tie.Start
+start c = c .before .before .before .before
 
-abbrev counted : tie.After-counted-outside → tie.After-count-live
-counted c = c .before .before .before .before
+-- the live nodes are counted, and whether a count is no node's is known
+count-is : (c : tie.Start) → let s = c .args .self in c .args .live ≡ length (liveNodes (s .live) (nodeCountOf s))
+count-is c = c .pre .2 ∙ ap (λ (n : ℕ). length (liveNodes (c .args .self .live) n)) (c .pre .0)
 
--- how many nodes are live, and whether a count is no node's
-count-is : (c : tie.After-count-live) → let s = start c .args .self in c .count-live .result ≡ length (liveNodes (s .live) (nodeCountOf s))
-count-is c = c .count-live .ensures ∙ ap (λ (n : ℕ). length (liveNodes (start c .args .self .live) n)) (start c .pre .0)
-
-outside-is : (c : tie.After-counted-outside) → let s = start (counted c) .args .self in c .counted-outside .result ≡ countedOutside (nodeCountOf s) (s .reads)
-outside-is c = let e = start (counted c) in c .counted-outside .ensures ∙ ap (λ (n : ℕ). countedOutside n (e .args .self .reads)) (e .pre .0)
+outside-is : (c : tie.After-counted-outside) → let s = start c .args .self in c .counted-outside .result ≡ countedOutside (nodeCountOf s) (s .reads)
+outside-is c = let e = start c in c .counted-outside .ensures ∙ ap (λ (n : ℕ). countedOutside n (e .args .self .reads)) (e .pre .0)
 
 -- the steps are at most the live nodes
-few-steps : (c : tie.After-counted-outside) → let s = start (counted c) .args .self in s .steps ≤ length (liveNodes (s .live) (nodeCountOf s))
-few-steps c = let l : tie.Else1 = search in omega (arith, count-is (counted c), l .if1 .left)
+few-steps : (c : tie.After-counted-outside) → let s = start c .args .self in s .steps ≤ length (liveNodes (s .live) (nodeCountOf s))
+few-steps c = let l : tie.Else1 = search in omega (arith, count-is (start c), l .if1 .left)
 
 returns : tie.Need-returns
-returns c = let l : tie.After-count-live = search in sym (miscounted-steps (start l .args .self) (omega (arith, count-is l, c .if1 .taken)))
+returns c = let e : tie.Start = search in sym (miscounted-steps (e .args .self) (omega (arith, count-is e, c .if1 .taken)))
 
 returns-2 : tie.Need-returns-2
-returns-2 c = let o = c .before in sym (miscounted-outside (start (counted o) .args .self) (sym (outside-is o) ∙ c .if2 .taken))
+returns-2 c = let o = c .before in sym (miscounted-outside (start o .args .self) (sym (outside-is o) ∙ c .if2 .taken))
 
 mul-result : tie.Need-mul-result
 mul-result c =
     let o = c .before .before .before in
-    let e = start (counted o) in
-    record { fits = omega (arith, few-steps o, live-nodes-few (e .args .self .live) (nodeCountOf (e .args .self)), e .pre) }
+    let e = start o in
+    record { fits = omega (arith, few-steps o, live-nodes-few (e .args .self .live) (nodeCountOf (e .args .self)), e .pre .0, e .pre .1) }
 
 returns-3 : tie.Need-returns-3
 returns-3 c =
     let o = c .before .before .before in
-    let s = start (counted o) .args .self in
+    let s = start o .args .self in
     rw (c .before .sum .ensures) (sym (miscounted-sum s (few-steps o) (sym (outside-is o) ∙ c .before .before .if2 .left)))
 
 pub is-miscounted-spec : {M : Type 1} → statement M
 is-miscounted-spec =
     tie.close
     (tie.spec
-    (λ c κs. search needs)
     returns
     (λ c κs. search needs)
     returns-2

@@ -39,5 +39,6 @@ is-unsound-spec =
     (λ c κs. in-blocks c)
     (λ c κs. few-nodes (search))
     (λ c. let p : tie.Else1 = search in sym (unsound-marks _ (passed p) (sym (outside-is (c .before)) ∙ c .if2 .taken)))
-    (λ c κs. let n : tie.After-node-count-of = search in (n .node-count-of .ensures, few-nodes n))
-    (λ c. let p : tie.Else1 = search in c .is-miscounted .ensures ∙ sym (unsound-counts _ (passed p) (sym (outside-is (c .before .before)) ∙ c .before .if2 .left))))
+    (λ c κs. few-nodes (search))
+    (λ c κs. let n : tie.After-node-count-of = search in (n .node-count-of .ensures, few-nodes n, c .count-live .ensures))
+    (λ c. let p : tie.Else1 = search in let low : tie.Else2 = search in c .is-miscounted .ensures ∙ sym (unsound-counts _ (passed p) (sym (outside-is (search)) ∙ low .if2 .left))))
