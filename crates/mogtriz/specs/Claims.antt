@@ -20,6 +20,7 @@ use Rattle.graded.specs.Order.{columnAt}
 use Rattle.conversion.specs.Converted.{fromGraded, toGraded, converted}
 use Rattle.conversion.specs.Claims.{boxLeft, BodiesBy}
 use Rattle.planning.specs.Pairs.{NoPairLeft}
+use Rattle.planning.specs.Plan.{timesRead}
 use Rattle.leftover.specs.Open.{Open, OpenCount}
 use Rattle.repair.specs.declared.Session.{Session}
 use Rattle.repair.specs.declared.Started.{Started}
@@ -32,7 +33,6 @@ use Rattle.repair.specs.Step.{stepped, nodesStepped}
 use Rattle.repair.specs.Repairs.{planned, outPlanned, ran, nodesRan}
 use Rattle.repair.specs.Calls.{Move, run, State, Call, madeAfter, liveAfter, stateAfter}
 use Rattle.repair.specs.Claims.{Sound}
-use Rattle.repair.specs.Reads.{timesRead}
 use Rattle.repair.specs.RepairClaims.{LiveAreOwn}
 use Rattle.repair.specs.WholeWay.{LowestOpen, NoneOpen, Way, startOf, nodesEncoded}
 use Rattle.mogtriz.specs.declared.sessions.MarkedSession.{MarkedSession}

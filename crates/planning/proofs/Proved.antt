@@ -1,10 +1,14 @@
 -- The claims of specs/Claims.antt.
 -- Assumes nothing.
 use Prim.Native.Nat.{ℕ}
+use native.Mathlib.Omega.{arith}
 use Rattle.families.specs.Families.{nodeCount}
-use Rattle.planning.specs.Claims.{PlanClaim}
-use Rattle.planning.specs.Plan.{planOf}
+use Rattle.families.proofs.Laws.{few}
+use Rattle.counts.proofs.Laws.{sum-all}
+use Rattle.planning.specs.Claims.{PlanClaim, ReadsClaim}
+use Rattle.planning.specs.Plan.{sourcesOf, planOf}
 use Rattle.planning.proofs.MakeLaws.{make-counts, left-few}
+use Rattle.planning.proofs.SourceLaws.{length-sources, sources-inside, reads-are}
 use Rattle.planning.proofs.PlanLaws.{rounds-end, rounds-make, rounds-quiet, rounds-enough}
 
 pub plan-claim : PlanClaim
@@ -18,4 +22,11 @@ plan-claim f k range marks size =
       ended = rounds-end f k marks;
       enough = λ m h. rounds-enough f k range n m marks size 1 (left-few marks n) h;
       counts = make-counts f k range marks size (planOf f k marks) makes;
+    }
+
+pub reads-claim : ReadsClaim
+reads-claim f k range marks counts steps size a =
+    record {
+      times = λ j. reads-are f k range j counts marks steps size a;
+      sum = omega (arith, sum-all (nodeCount f k) counts (sourcesOf steps) (omega (arith, size, few f k range)) (sources-inside f k marks steps a), length-sources steps);
     }

@@ -2,13 +2,14 @@
 use mathlib.Core.Path.{_≡_}
 use mathlib.Core.Bool.{Bool, true, false}
 use mathlib.Core.List.{List, [], _∷_}
-use Prim.Native.Nat.{ℕ, _+_, _≤_}
+use Prim.Native.Nat.{ℕ, _+_, _*_, _≤_}
 use lib.ListN.{length, set}
 use Rattle.families.specs.declared.Family.{Family}
 use Rattle.families.specs.Families.{KInRange, IsNode, nodeCount, areRelated}
 use Rattle.lists.specs.Lists.{isLive}
+use Rattle.counts.specs.Counts.{countOf, countAll, sumOf}
 use Rattle.planning.specs.Pairs.{NoPairLeft}
-use Rattle.planning.specs.Plan.{Step, roundSteps, marksAfter, roundsFrom, planOf, nodesLeft}
+use Rattle.planning.specs.Plan.{Step, roundSteps, sourcesOf, timesRead, marksAfter, roundsFrom, planOf, nodesLeft}
 
 -- a step that can be made: it names a missing node and two live nodes related to it
 pub record CanMake (f : Family) (k : ℕ) (marks : List Bool) (step : Step) : Type 0 where
@@ -40,3 +41,16 @@ pub record PlanClaims (f : Family) (k : ℕ) (marks : List Bool) : Type 0 where
 
 abbrev pub PlanClaim : Type 0
 PlanClaim = (f : Family) (k : ℕ) → KInRange f k → (marks : List Bool) → length marks ≡ 256 → PlanClaims f k marks
+
+-- ---- reads
+
+-- of steps that can be made, counted in 256 counts
+pub record ReadsClaims (f : Family) (k : ℕ) (counts : List ℕ) (steps : List Step) : Type 0 where
+  -- a number has as many more as there are steps that read it
+  pub times : (j : ℕ) → countOf (countAll counts (sourcesOf steps)) j ≡ countOf counts j + timesRead j steps
+  -- and all of them together two more for each step
+  pub sum : sumOf (countAll counts (sourcesOf steps)) ≡ sumOf counts + 2 * length steps
+
+abbrev pub ReadsClaim : Type 0
+ReadsClaim = (f : Family) (k : ℕ) → KInRange f k → (marks : List Bool) (counts : List ℕ) (steps : List Step) → length counts ≡ 256 → CanMakeAll f k marks steps
+    → ReadsClaims f k counts steps

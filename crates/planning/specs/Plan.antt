@@ -1,8 +1,8 @@
 -- The plan (document 01, "Plan"): rounds from 1, the steps of a round, and what a plan comes to.
-use mathlib.Core.Bool.{Bool, not, _&&_}
+use mathlib.Core.Bool.{Bool, cond, not, _&&_, _||_}
 use mathlib.Core.List.{List, [], _∷_, _++_, map, flatMap, getLastD}
-use Prim.Native.Nat.{ℕ, zero, suc}
-use lib.Dec.{ltb}
+use Prim.Native.Nat.{ℕ, zero, suc, _+_}
+use lib.Dec.{eqb, ltb}
 use lib.ListN.{length}
 use Rattle.base.specs.Ranges.{thoseFrom}
 use Rattle.families.specs.declared.Family.{Family}
@@ -36,6 +36,11 @@ repairedNodes steps = map (λ (step : Step). step .node) steps
 -- the nodes that steps read: the pair of each
 unfoldable pub sourcesOf : List Step → List ℕ
 sourcesOf steps = flatMap (λ (step : Step). step .smaller ∷ step .larger ∷ []) steps
+
+-- how many of the steps read node j
+unfoldable pub timesRead : ℕ → List Step → ℕ
+timesRead j [] = 0
+timesRead j (step ∷ steps) = cond (eqb j (step .smaller) || eqb j (step .larger)) 1 0 + timesRead j steps
 
 -- the marks after steps
 abbrev pub marksAfter : List Bool → List Step → List Bool

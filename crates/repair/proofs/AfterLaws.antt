@@ -8,16 +8,16 @@ use native.Mathlib.Nat.{add-zero}
 use native.Mathlib.Omega.{arith}
 use lib.ListN.{length, length-append}
 use Rattle.families.specs.Families.{familyOf}
-use Rattle.families.proofs.Laws.{few}
 use Rattle.lists.specs.Lists.{setLive}
 use Rattle.lists.proofs.Laws.{length-setLive, live-outside-none}
 use Rattle.counts.specs.Counts.{countAll}
-use Rattle.counts.proofs.Laws.{length-countAll, count-append, sum-all, all-outside}
+use Rattle.counts.proofs.Laws.{length-countAll, count-append, all-outside}
 use Rattle.planning.specs.Claims.{CanMakeAll}
 use Rattle.planning.specs.Plan.{Step, repairedNodes, sourcesOf}
 use Rattle.planning.proofs.RoundLaws.{marks-append}
 use Rattle.planning.proofs.MakeLaws.{make-counts}
-use Rattle.planning.proofs.SourceLaws.{length-sources, sources-append, sources-inside, repaired-inside}
+use Rattle.planning.proofs.SourceLaws.{sources-append, sources-inside, repaired-inside}
+use Rattle.planning.proofs.Proved.{reads-claim}
 use Rattle.repair.specs.declared.Session.{Session}
 use Rattle.repair.specs.Session.{Arrays, nodeCountOf, unsound}
 use Rattle.repair.specs.Step.{afterSteps}
@@ -57,12 +57,11 @@ module _ (s : Session) where
         let f = familyOf (s .family) in
         let n = nodeCountOf s in
         let range = g .range .blocks in
-        let most = few f (s .k) range in
         let read = sources-inside f (s .k) (s .live) steps a in
         record {
           range = g .range;
           inside = live-outside-none n (s .live) (repairedNodes steps) (repaired-inside f (s .k) (s .live) steps a) (g .inside);
-          sum = omega (arith, sum-all n (s .reads) (sourcesOf steps) (omega (arith, most, arrays .counts)) read, length-sources steps, g .sum);
+          sum = omega (arith, reads-claim f (s .k) range (s .live) (s .reads) steps (arrays .counts) a .sum, g .sum);
           reads-inside = all-outside n (s .reads) (sourcesOf steps) read (g .reads-inside);
           few = omega (arith, make-counts f (s .k) range (s .live) (arrays .marks) steps a, g .few);
         }

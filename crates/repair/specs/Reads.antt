@@ -1,23 +1,17 @@
 -- Reads by node, and steps since the start (document 02, K8): what the counts of a session are after a whole list of calls;
 -- proofs/ReadsProved.antt has the proofs.
 use mathlib.Core.Path.{_≡_}
-use mathlib.Core.Bool.{false, cond, _||_}
-use mathlib.Core.List.{List, [], _∷_}
-use Prim.Native.Nat.{ℕ, _+_, _*_, _<_}
-use lib.Dec.{eqb}
+use mathlib.Core.Bool.{false}
+use mathlib.Core.List.{List}
+use Prim.Native.Nat.{ℕ, _*_, _<_}
 use lib.ListN.{length}
 use Rattle.families.specs.Families.{familyOf, IsNode}
 use Rattle.counts.specs.Counts.{countOf, sumOf}
-use Rattle.planning.specs.Plan.{Step}
+use Rattle.planning.specs.Plan.{timesRead}
 use Rattle.repair.specs.declared.Session.{Session}
 use Rattle.repair.specs.Session.{started, unsound}
 use Rattle.repair.specs.Calls.{Call, madeAfter}
 use Rattle.repair.specs.LeftOver.{lastSession}
-
--- how many of the steps read node j
-unfoldable pub timesRead : ℕ → List Step → ℕ
-timesRead j [] = 0
-timesRead j (step ∷ steps) = cond (eqb j (step .smaller) || eqb j (step .larger)) 1 0 + timesRead j steps
 
 -- of a start's family, k, L and list, and a list of calls
 pub record Counted (family k L : ℕ) (list : List ℕ) (calls : List Call) : Type 0 where
