@@ -261,9 +261,12 @@ static void call_to_be_counted(void)
     stepped = mogtriz_step(wanted, nodes, sizeof nodes, 3, 1, 2);
     EXPECT(stepped.refusal == MOGTRIZ_REFUSED_NODE_MISSING && same_session(stepped.session, wanted));
     EXPECT(same_session(mogtriz_run(wanted, nodes, sizeof nodes - 1).session, wanted));
-    EXPECT(same_session(mogtriz_plan(wanted, steps, sizeof steps).session, wanted));
-    EXPECT(same_session(mogtriz_live_nodes(wanted, list, sizeof list).session, wanted));
-    EXPECT(same_session(mogtriz_write(wanted, nodes, sizeof nodes, kept, sizeof kept, box, sizeof box).session, wanted));
+    mogtriz_repairs plan = mogtriz_plan(wanted, steps, sizeof steps);
+    EXPECT(plan.refusal == MOGTRIZ_SERVED && same_session(plan.session, wanted));
+    mogtriz_written listed = mogtriz_live_nodes(wanted, list, sizeof list);
+    EXPECT(listed.refusal == MOGTRIZ_SERVED && same_session(listed.session, wanted));
+    mogtriz_written written = mogtriz_write(wanted, nodes, sizeof nodes, kept, sizeof kept, box, sizeof box);
+    EXPECT(written.refusal == MOGTRIZ_SERVED && same_session(written.session, wanted));
 
     /* the run goes on with 2 from 5 and 7, 3 from 4 and 7, and 6 from 1 and 7; from the start it is these and 1 from 4 and 5 */
     mogtriz_repairs run = mogtriz_run(wanted, nodes, sizeof nodes);
@@ -273,7 +276,8 @@ static void call_to_be_counted(void)
     EXPECT(run.refusal == MOGTRIZ_SERVED && run.steps == 3 && same_session(run.session, wanted));
     run = mogtriz_run(three_live(), nodes, sizeof nodes);
     EXPECT(run.refusal == MOGTRIZ_SERVED && run.steps == 4 && same_session(run.session, wanted));
-    EXPECT(same_session(mogtriz_read_out(wanted, nodes, sizeof nodes, again, sizeof again).session, wanted));
+    mogtriz_read_out_answer out = mogtriz_read_out(wanted, nodes, sizeof nodes, again, sizeof again);
+    EXPECT(out.refusal == MOGTRIZ_SERVED && same_session(out.session, wanted));
 
     /* counts that no steps lead to are taken, and counted on; those that do not agree are not */
     stepped = mogtriz_step(counted(2, 4, 0, 0), nodes, sizeof nodes, 1, 4, 5);

@@ -206,7 +206,7 @@ impl Contents<'_> {
     }
 }
 
-/// n, or 13: a number is out of range, a mark is none or stands against 0 or above n, or the counts do not agree (document 02, K8).
+/// n, or 13: a number is out of range, a mark is neither 0 nor 1 or stands against 0 or above n, or the counts do not agree (document 02, K8).
 pub fn check_session(session: &Session) -> Result<usize, u8> {
     let n = checked_node_count(session.family, session.k, session.len).map_err(|_| 13)?;
     let no_mark = session.live.iter().any(|&mark| mark > 1);

@@ -25,7 +25,7 @@ pub fn spread(total: usize, nodes: &[u8]) -> [u16; MARKS] {
     reads
 }
 
-/// The session, of which nodes 1 to n are marked, with counts that agree: from no step to as many as nodes are live, which with the
+/// The session, with no mark outside 1 to n, with counts that agree: from no step to as many as nodes are live, which with the
 /// missing ones are n, and twice as many reads, of one node, of two, of all, of missing ones or of any.
 pub fn agreeing(session: Session, n: usize, random: &mut Random) -> Session {
     let most = live_nodes(&session).len();

@@ -179,7 +179,7 @@ fn steps_that_are_too_many_are_turned_away() {
             }
             case.is_turned_away(usize::MAX, reads);
             case.is_turned_away(usize::MAX - steps, reads);
-            // with the missing nodes these come round to 0 or the steps
+            // with missing nodes the first comes round to 0; the second is near 2^64
             case.is_turned_away(0usize.wrapping_sub(missing.max(1)), reads);
             case.is_turned_away(steps.wrapping_sub(case.n() + 1), reads);
         }

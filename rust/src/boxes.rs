@@ -95,7 +95,8 @@ fn converted(answer: raw::Converted) -> Result<usize, Refusal> {
 }
 
 impl Session {
-    /// A box checked alone, which gives its session: the box's family, k and L, and the nodes that it names live.
+    /// A box checked alone, which gives its session: the box's family, k and L, the nodes that it names live, and no step or read
+    /// counted.
     ///
     /// A box: byte 0 the family, byte 1 k, bytes 2 and 3 L, low byte first, byte 4 the number E of nodes held, bytes 5 to 7
     /// zero; then E node numbers, a byte each, strictly rising; then their E blocks of L bytes in the same order. Its length
@@ -131,7 +132,7 @@ impl Session {
         Session::from_answer(&raw::check(bytes))
     }
 
-    /// A box read into a nodes buffer of exactly n × L bytes, which gives its session. Each body goes to its node's place;
+    /// A box read into a nodes buffer of exactly n × L bytes, which gives the session that [`check`](Session::check) gives. Each body goes to its node's place;
     /// places of missing nodes keep their bytes, so that several boxes of one object can be read into one buffer. A
     /// [`start`](Session::start) with the nodes of all of them then gives the session.
     ///

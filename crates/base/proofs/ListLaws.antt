@@ -1,4 +1,4 @@
--- Laws of lists: a list of none, an element of what each becomes, and a list for each element, one after the other.
+-- Laws of lists: a list of none, an element of what each becomes, a list for each element, one after the other, and what stands in a list.
 -- Assumes nothing.
 use mathlib.Core.Path.{_≡_, refl, ap₂}
 use mathlib.Core.List.{List, [], _∷_, _++_, append-assoc, map, flatMap}
@@ -35,3 +35,9 @@ pub flatMap-same : {A B : Type 0} (g h : A → List B) (s : List A) (a : A) → 
 unfolding flatMap
 flatMap-same g h [] a e = refl
 flatMap-same g h (x ∷ s) a e = ap₂ _++_ (e 0 (omega arith)) (flatMap-same g h s a (λ i l. e (suc i) (omega arith)))
+
+-- what is not the default stands in the list
+pub within : {A : Type 0} (list : List A) (d : A) (j : ℕ) → (getD list j d ≡ d → ⊥) → j < length list
+within [] d j h = absurd (h refl)
+within (x ∷ list) d zero h = omega arith
+within (x ∷ list) d (suc j) h = omega (arith, within list d j h)

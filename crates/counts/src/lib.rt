@@ -1,4 +1,5 @@
-// Counts, one for each number from 0 to 255.
+// Counts, one for each number from 0 to 255. They come by value where they are summed: of an array that is lent, a proof does not know
+// that its elements fit 16 bits.
 ghost use mathlib.Core.Path.{_≡_};
 ghost use Prim.Native.Nat.{_≤_, _<_};
 ghost use Rattle.counts.specs.Counts.{countOf, oneMore, sumOf, countedOutside};

@@ -43,7 +43,7 @@ use Rattle.repair.proofs.RefusalsProved.{thirteen-claim, not-thirteen-claim}
 use Rattle.repair.proofs.ReadsProved.{not-reached-claim}
 use Rattle.listing.specs.Text.{decimal, field, firstLine, stepLine, lastLine, refusalLine}
 use Rattle.listing.specs.Listing.{answerOf, listingIn, listingOf}
-use Rattle.examples.specs.Examples.{Row, Encodes, Interleaves, InterleaveGives, Plans, Starts, BoxGives, BoxReads, BoxHolds, BoxLacks, BoxSteps, BoxWrites, BoxNames, Converts, ConvertGives, Lists, Stands, TurnedAway, ServedAnyway, sessionBy, allBut, HasPlan, Holds, Every, table, Examples}
+use Rattle.examples.specs.Examples.{Row, Encodes, Interleaves, InterleaveGives, Plans, Starts, BoxGives, BoxReads, BoxHolds, BoxLacks, BoxSteps, BoxWrites, BoxNames, Converts, ConvertGives, Lists, IsSound, TurnedAway, ServedAnyway, sessionBy, allBut, HasPlan, Holds, Every, table, Examples}
 
 -- ---- a plan
 
@@ -137,7 +137,7 @@ Computed (Converts theirs ours) =
     × (converted ours out ≡ record { refusal = 0; length = length ours }) × (outConverted toGraded ours out ≡ theirs ++ drop (length theirs) out)
 Computed (ConvertGives bytes room number) = (firstMet (conversionChecks bytes room) ≡ number) × (eqb number 0 ≡ false)
 Computed (Lists box text) = Holds (Lists box text)
-Computed (Stands family k L list steps reads) = unsound (sessionBy family k L list steps reads) ≡ false
+Computed (IsSound family k L list steps reads) = unsound (sessionBy family k L list steps reads) ≡ false
 Computed (TurnedAway family k L list steps reads) = unsound (sessionBy family k L list steps reads) ≡ true
 -- node a has more reads than there are steps
 Computed (ServedAnyway family k L list steps reads j a b more) =
@@ -172,7 +172,7 @@ holds (ConvertGives bytes room number) (is, some) = λ out e.
     let r = converted-refused bytes out fromGraded met in
     (r .0 ∙ ap (λ (m : ℕ). record { refusal = m; length = 0 }) given, r .1, converted-refused bytes out toGraded met .1)
 holds (Lists box text) c = c
-holds (Stands family k L list steps reads) c = not-thirteen-claim (sessionBy family k L list steps reads) c
+holds (IsSound family k L list steps reads) c = not-thirteen-claim (sessionBy family k L list steps reads) c
 holds (TurnedAway family k L list steps reads) c = thirteen-claim (sessionBy family k L list steps reads) c
 holds (ServedAnyway family k L list steps reads j a b more) (low, many, c) =
     (not-reached-claim (sessionBy family k L list steps reads) a (ltb-true a 256 low) (ltb-true steps _ many), each _ _ c)

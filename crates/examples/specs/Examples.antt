@@ -62,7 +62,7 @@ pub data Row : Type 0 where
   -- a box, and what the lister prints of it
   Lists : List ℕ → String → Row
   -- family, k, L, the live nodes, the steps and the reads of each number, from 0: no operation turns that session away with 13
-  Stands : ℕ → ℕ → ℕ → List ℕ → ℕ → List ℕ → Row
+  IsSound : ℕ → ℕ → ℕ → List ℕ → ℕ → List ℕ → Row
   -- every operation turns it away with 13
   TurnedAway : ℕ → ℕ → ℕ → List ℕ → ℕ → List ℕ → Row
   -- no start leads to it, and yet a step is served: the node and two others, and the reads then
@@ -139,7 +139,7 @@ Holds (ConvertGives bytes room number) =
     (out : List ℕ) → length out ≡ room
     → (converted bytes out ≡ record { refusal = number; length = 0 }) × (outConverted fromGraded bytes out ≡ out) × (outConverted toGraded bytes out ≡ out)
 Holds (Lists box text) = listingOf box ≡ ascii text
-Holds (Stands family k L list steps reads) = NotThirteen (sessionBy family k L list steps reads)
+Holds (IsSound family k L list steps reads) = NotThirteen (sessionBy family k L list steps reads)
 Holds (TurnedAway family k L list steps reads) = Thirteen (sessionBy family k L list steps reads)
 -- the node is live then, and one step more is counted
 Holds (ServedAnyway family k L list steps reads j a b more) =
@@ -259,17 +259,17 @@ table =
     ∷ BoxGives (1 ∷ 2 ∷ 1 ∷ 0 ∷ 4 ∷ 0 ∷ 0 ∷ 0 ∷ 1 ∷ 2 ∷ 3 ∷ 3 ∷ 9 ∷ 9 ∷ 9 ∷ 9 ∷ []) 9
     -- Simplex 2, nodes 1 and 2 live, one step made (document 02, K8): its reads are two, of nodes 1 and 2, or twice of one, which may
     -- be missing. One read or three give 13, and so does one of two for 0 or for 4, which is above n
-    ∷ Stands 1 2 1 (1 ∷ 2 ∷ []) 1 (0 ∷ 1 ∷ 1 ∷ [])
-    ∷ Stands 1 2 1 (1 ∷ 2 ∷ []) 1 (0 ∷ 0 ∷ 0 ∷ 2 ∷ [])
+    ∷ IsSound 1 2 1 (1 ∷ 2 ∷ []) 1 (0 ∷ 1 ∷ 1 ∷ [])
+    ∷ IsSound 1 2 1 (1 ∷ 2 ∷ []) 1 (0 ∷ 0 ∷ 0 ∷ 2 ∷ [])
     ∷ TurnedAway 1 2 1 (1 ∷ 2 ∷ []) 1 (0 ∷ 1 ∷ [])
     ∷ TurnedAway 1 2 1 (1 ∷ 2 ∷ []) 1 (0 ∷ 2 ∷ 1 ∷ [])
     ∷ TurnedAway 1 2 1 (1 ∷ 2 ∷ []) 1 (1 ∷ 1 ∷ [])
     ∷ TurnedAway 1 2 1 (1 ∷ 2 ∷ []) 1 (0 ∷ 1 ∷ 0 ∷ 0 ∷ 1 ∷ [])
     -- Steps and missing nodes may be 3, and not 4; where all are live there may be three steps. 2^63 steps are too many, though twice
     -- as many would be 0 in 64 bits, and so are 65,535 reads and one more for no step, though their sum would be 0 in 16
-    ∷ Stands 1 2 1 (1 ∷ 2 ∷ []) 2 (0 ∷ 2 ∷ 2 ∷ [])
+    ∷ IsSound 1 2 1 (1 ∷ 2 ∷ []) 2 (0 ∷ 2 ∷ 2 ∷ [])
     ∷ TurnedAway 1 2 1 (1 ∷ 2 ∷ []) 3 (0 ∷ 3 ∷ 3 ∷ [])
-    ∷ Stands 1 2 1 (1 ∷ 2 ∷ 3 ∷ []) 3 (0 ∷ 3 ∷ 3 ∷ [])
+    ∷ IsSound 1 2 1 (1 ∷ 2 ∷ 3 ∷ []) 3 (0 ∷ 3 ∷ 3 ∷ [])
     ∷ TurnedAway 1 2 1 (1 ∷ 2 ∷ 3 ∷ []) 9223372036854775808 []
     ∷ TurnedAway 1 2 1 (1 ∷ 2 ∷ 3 ∷ []) 0 (0 ∷ 65535 ∷ 1 ∷ [])
     -- Two reads of node 1 by one step: no start leads there, and the step to node 3 from 1 and 2 is served

@@ -70,7 +70,7 @@ module _ (input : List ℕ) where
       go (no l) (yes p) = absurd (h (ap length (answered input [] (omega arith) p)))
       go (no l) (no n) = refused input text (omega arith) n ∙ sym (refused input [] (omega arith) n)
 
-  -- some start gives the session of an accepted box
+  -- the session of an accepted box is sound
   pub box-known : checkedBox input .refusal ≡ 0 → unsound (checkedBox input .session) ≡ false
   box-known passes =
       let from = box-start-claim input passes .start in

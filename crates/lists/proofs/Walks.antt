@@ -11,7 +11,7 @@ use lib.ListN.{length, drop, getD, set, replicate, drop-of-length-le, length-app
 use lib.Seq.{drop-cons, set-append-seam}
 use Rattle.base.specs.Ranges.{thoseFrom, outside}
 use Rattle.base.proofs.RangeLaws.{those-append, outside-high}
-use Rattle.lists.specs.Lists.{someOutside, rises, placeIn, isLive, setLive, someMissing, passesOutside, liveNodes}
+use Rattle.lists.specs.Lists.{someOutside, rises, placeIn, isLive, setLive, someMissing, passesOutside}
 use Rattle.lists.proofs.Laws.{inside-append, nodes-inside}
 
 -- ---- a list, from place i on

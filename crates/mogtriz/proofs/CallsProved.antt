@@ -24,7 +24,6 @@ use Rattle.repair.specs.WholeWay.{OutWhereOpen, Way, startOf, nodesEncoded, box
 use Rattle.repair.proofs.Proved.{write-read-claim}
 use Rattle.repair.proofs.LeftOverProved.{demand-3}
 use Rattle.repair.proofs.ReadsProved.{counted-claim}
-use Rattle.repair.proofs.RefusalsProved.{not-thirteen-claim}
 use Rattle.repair.proofs.RepairsProved.{own-claim}
 use Rattle.repair.proofs.WholeWayProved.{whole-way-claim}
 use Rattle.mogtriz.specs.declared.sessions.MarkedSession.{MarkedSession}
@@ -76,7 +75,7 @@ counted-c-claim family k L list e calls =
       reads = rw is (own .reads);
       sum = rw is (own .sum);
       none = rw is (own .none);
-      not-13 = rw is (agree-not-13 last (not-thirteen-claim last (own .sound)));
+      not-13 = rw is (agree-not-13 last (own .not-13));
     }
 
 -- what is claimed of a session holds of its C form

@@ -16,10 +16,10 @@ use Rattle.checks.proofs.Laws.{range-claim}
 use Rattle.boxes.specs.Box.{bodyChecks, bodyOf}
 use Rattle.checks.specs.Parameters.{parameterChecks}
 use Rattle.repair.specs.declared.Session.{Session}
-use Rattle.repair.specs.Session.{Arrays, started, unsound}
+use Rattle.repair.specs.Session.{started, unsound}
 use Rattle.repair.specs.Boxed.{readBox, nodesRead}
 use Rattle.repair.specs.Claims.{WrittenAgain}
-use Rattle.repair.proofs.Proved.{sound-claim, live-list-claim, read-write-claim}
+use Rattle.repair.proofs.Proved.{live-list-claim, read-write-claim}
 use Rattle.repair.proofs.RefusalsProved.{refusal-claim, thirteen-claim, not-thirteen-claim}
 use Rattle.mogtriz.specs.declared.sessions.MarkedSession.{MarkedSession}
 use Rattle.mogtriz.specs.Sessions.{markOf, someAbove1, sessionForC, sessionOfC, startedC, writtenC, liveListedC, readOutC, partIn}
@@ -76,7 +76,7 @@ turned-away-claim s =
       read-out = λ nodes object h. let r = own .read-out (sessionOfC s) nodes object h in (rw (r .0), r .1);
     }
 
--- a session with a byte above 1 is taken in as one that cannot stand
+-- a session with a byte above 1 is taken in as an unsound one
 above-unsound : (s : MarkedSession) → someAbove1 (s .live) ≡ true → unsound (sessionOfC s) ≡ true
 unfolding sessionOfC unsound parameterChecks firstMet
 above-unsound s h = rw h
@@ -96,10 +96,8 @@ thirteen-c-claim s due = go due
 
 pub not-thirteen-c-claim : NotThirteenCClaim
 unfolding steppedC plannedC ranC writtenC liveListedC readOutC
-not-thirteen-c-claim s marks counts low holds =
-    let is = of-low s low in
-    let arrays : Arrays (sessionOfC s) = rw is (record { marks = length-map (s .live) markOf ∙ marks; counts = counts }) in
-    let t = not-thirteen-claim (sessionOfC s) (sound-claim (sessionOfC s) arrays .1 holds) in
+not-thirteen-c-claim s sound =
+    let t = not-thirteen-claim (sessionOfC s) sound in
     record { step = t .step; plan = t .plan; run = t .run; write = t .write; live = t .live; read-out = t .read-out }
 
 -- one that is accepted has no byte above 1, so that it is C's again once it is handed out

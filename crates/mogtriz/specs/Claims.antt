@@ -32,7 +32,6 @@ use Rattle.repair.specs.ReadOut.{missingIn, readOut, objectOut}
 use Rattle.repair.specs.Step.{stepped, nodesStepped}
 use Rattle.repair.specs.Repairs.{planned, outPlanned, ran, nodesRan}
 use Rattle.repair.specs.Calls.{Move, run, State, Call, madeAfter, liveAfter, stateAfter}
-use Rattle.repair.specs.Claims.{Sound}
 use Rattle.repair.specs.RepairClaims.{LiveAreOwn}
 use Rattle.repair.specs.WholeWay.{LowestOpen, NoneOpen, Way, startOf, nodesEncoded}
 use Rattle.mogtriz.specs.declared.sessions.MarkedSession.{MarkedSession}
@@ -107,32 +106,30 @@ pub record TurnedAway (s : MarkedSession) : Type 0 where
 abbrev pub TurnedAwayClaim : Type 0
 TurnedAwayClaim = (s : MarkedSession) → TurnedAway s
 
--- every call on a session gives 13, whatever is asked for
-pub record ThirteenC (s : MarkedSession) : Type 0 where
-  pub step : (nodes : List ℕ) (j a b : ℕ) → steppedC s nodes j a b .refusal ≡ 13
-  pub plan : (out : List ℕ) → plannedC s out .refusal ≡ 13
-  pub run : (nodes : List ℕ) → ranC s nodes .refusal ≡ 13
-  pub write : (nodes list out : List ℕ) → writtenC s nodes list out .refusal ≡ 13
-  pub live : (out : List ℕ) → liveListedC s out .refusal ≡ 13
-  pub read-out : (nodes object : List ℕ) → readOutC s nodes object .refusal ≡ 13
+-- this is so of the number that each call on a session gives, whatever is asked for
+pub record NumbersC (s : MarkedSession) (So : ℕ → Type 0) : Type 0 where
+  pub step : (nodes : List ℕ) (j a b : ℕ) → So (steppedC s nodes j a b .refusal)
+  pub plan : (out : List ℕ) → So (plannedC s out .refusal)
+  pub run : (nodes : List ℕ) → So (ranC s nodes .refusal)
+  pub write : (nodes list out : List ℕ) → So (writtenC s nodes list out .refusal)
+  pub live : (out : List ℕ) → So (liveListedC s out .refusal)
+  pub read-out : (nodes object : List ℕ) → So (readOutC s nodes object .refusal)
 
--- where a byte is above 1, or the session cannot stand
+-- every call gives 13
+abbrev pub ThirteenC : MarkedSession → Type 0
+ThirteenC s = NumbersC s (λ number. number ≡ 13)
+
+-- where a byte is above 1, or the session is unsound
 abbrev pub ThirteenCClaim : Type 0
 ThirteenCClaim = (s : MarkedSession) → (someAbove1 (s .live) ≡ true) ⊎ (unsound (sessionOfC s) ≡ true) → ThirteenC s
 
--- no call on a session gives 13, whatever is asked for
-pub record NotThirteenC (s : MarkedSession) : Type 0 where
-  pub step : (nodes : List ℕ) (j a b : ℕ) → steppedC s nodes j a b .refusal ≡ 13 → ⊥
-  pub plan : (out : List ℕ) → plannedC s out .refusal ≡ 13 → ⊥
-  pub run : (nodes : List ℕ) → ranC s nodes .refusal ≡ 13 → ⊥
-  pub write : (nodes list out : List ℕ) → writtenC s nodes list out .refusal ≡ 13 → ⊥
-  pub live : (out : List ℕ) → liveListedC s out .refusal ≡ 13 → ⊥
-  pub read-out : (nodes object : List ℕ) → readOutC s nodes object .refusal ≡ 13 → ⊥
+-- no call gives 13
+abbrev pub NotThirteenC : MarkedSession → Type 0
+NotThirteenC s = NumbersC s (λ number. number ≡ 13 → ⊥)
 
--- where every byte is 0 or 1 and the session holds all that it has to
+-- where the session is sound, and so has no byte above 1
 abbrev pub NotThirteenCClaim : Type 0
-NotThirteenCClaim = (s : MarkedSession) → length (s .live) ≡ 256 → length (s .reads) ≡ 256
-    → someAbove1 (s .live) ≡ false → Sound (sessionOfC s) → NotThirteenC s
+NotThirteenCClaim = (s : MarkedSession) → unsound (sessionOfC s) ≡ false → NotThirteenC s
 
 -- ---- the calls agree
 

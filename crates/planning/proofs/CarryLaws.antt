@@ -46,19 +46,18 @@ length-mended {L} {j} {a} {b} {nodes} hj ha hb =
 
 -- ---- steps taken one by one from their bytes
 
-module _ (bytes : List ℕ) (count i : ℕ) where
-  -- those from step i on, from 0
-  abbrev pub stepsFrom : List Step
-  stepsFrom = stepsIn (drop (4 * i) bytes) (count - i)
+-- those from step i on, from 0
+abbrev stepsFrom : List ℕ → ℕ → ℕ → List Step
+stepsFrom bytes count i = stepsIn (drop (4 * i) bytes) (count - i)
 
-  -- step i
-  abbrev pub stepAt : Step
-  stepAt = record { round = getD bytes (4 * i) 0; node = getD bytes (4 * i + 1) 0; smaller = getD bytes (4 * i + 2) 0; larger = getD bytes (4 * i + 3) 0 }
+-- step i
+abbrev stepAt : List ℕ → ℕ → Step
+stepAt bytes i = record { round = getD bytes (4 * i) 0; node = getD bytes (4 * i + 1) 0; smaller = getD bytes (4 * i + 2) 0; larger = getD bytes (4 * i + 3) 0 }
 
-pub from-first : (bytes : List ℕ) (count : ℕ) → stepsFrom bytes count 0 ≡ stepsIn bytes count
+from-first : (bytes : List ℕ) (count : ℕ) → stepsFrom bytes count 0 ≡ stepsIn bytes count
 from-first bytes count = let e : count - 0 ≡ count = omega arith in rw e
 
-pub from-next : (bytes : List ℕ) (count i : ℕ) → i < count → stepsFrom bytes count i ≡ stepAt bytes count i ∷ stepsFrom bytes count (i + 1)
+from-next : (bytes : List ℕ) (count i : ℕ) → i < count → stepsFrom bytes count i ≡ stepAt bytes i ∷ stepsFrom bytes count (i + 1)
 unfolding stepsIn
 from-next bytes count i h =
     let e : count - i ≡ suc (count - (i + 1)) = omega arith in
@@ -67,7 +66,7 @@ from-next bytes count i h =
     let g : (p : ℕ) → getD (drop (4 * i) bytes) p 0 ≡ getD bytes (4 * i + p) 0 = λ p. rw getD-drop in
     ap (stepsIn (drop (4 * i) bytes)) e ∙ rw (g 0, g 1, g 2, g 3, f, drop-drop 4 (4 * i) bytes, d)
 
-pub from-last : (bytes : List ℕ) (count i : ℕ) → count ≤ i → stepsFrom bytes count i ≡ []
+from-last : (bytes : List ℕ) (count i : ℕ) → count ≤ i → stepsFrom bytes count i ≡ []
 unfolding stepsIn
 from-last bytes count i h = let e : count - i ≡ 0 = omega arith in ap (stepsIn (drop (4 * i) bytes)) e
 
@@ -87,10 +86,10 @@ carry-none {count = count} {bytes = bytes} h a =
 
 module _ {L : ℕ} {bytes : List ℕ} {count : ℕ} {start nodes : List ℕ} {i : ℕ} (w : Carried L bytes count start nodes i) where
   module _ (h : i < count) where
-    both : StepIn L nodes (stepAt bytes count i) × AllIn L nodes (stepsFrom bytes count (i + 1))
+    both : StepIn L nodes (stepAt bytes i) × AllIn L nodes (stepsFrom bytes count (i + 1))
     both = subst (AllIn L nodes) (from-next bytes count i h) (w .inside)
 
-    pub carry-step : StepIn L nodes (stepAt bytes count i)
+    pub carry-step : StepIn L nodes (stepAt bytes i)
     carry-step = both .0
 
     pub carry-more : Carried L bytes count start (mended L nodes (getD bytes (4 * i + 1) 0) (getD bytes (4 * i + 2) 0) (getD bytes (4 * i + 3) 0)) (i + 1)
@@ -112,38 +111,38 @@ module _ {L : ℕ} {bytes : List ℕ} {count : ℕ} {start nodes : List ℕ} {i 
 -- ---- their reads counted
 
 -- the reads of the first i steps are counted, and there is room for the others
-pub record Counted (bytes : List ℕ) (count : ℕ) (start reads : List ℕ) (i : ℕ) : Type 0 where
+pub record CountedSoFar (bytes : List ℕ) (count : ℕ) (start reads : List ℕ) (i : ℕ) : Type 0 where
   pub room : 4 * count ≤ length bytes
   pub within : i ≤ count
   pub few : sumOf reads + 2 * (count - i) ≤ 65535
   pub rest : countAll start (sourcesOf (stepsIn bytes count)) ≡ countAll reads (sourcesOf (stepsFrom bytes count i))
 
-pub count-none : {bytes : List ℕ} {count : ℕ} {reads : List ℕ} → 4 * count ≤ length bytes → sumOf reads + 2 * count ≤ 65535 → Counted bytes count reads reads 0
+pub count-none : {bytes : List ℕ} {count : ℕ} {reads : List ℕ} → 4 * count ≤ length bytes → sumOf reads + 2 * count ≤ 65535 → CountedSoFar bytes count reads reads 0
 count-none {bytes = bytes} {count = count} h f =
     let e = from-first bytes count in record { room = h; within = omega arith; few = omega arith; rest = rw e }
 
-module _ {bytes : List ℕ} {count : ℕ} {start reads : List ℕ} {i : ℕ} (w : Counted bytes count start reads i) where
+module _ {bytes : List ℕ} {count : ℕ} {start reads : List ℕ} {i : ℕ} (w : CountedSoFar bytes count start reads i) where
   module _ (h : i < count) where
     abbrev first : List ℕ
-    first = oneMore reads (stepAt bytes count i .smaller)
+    first = oneMore reads (stepAt bytes i .smaller)
 
     abbrev both-read : List ℕ
-    both-read = oneMore first (stepAt bytes count i .larger)
+    both-read = oneMore first (stepAt bytes i .larger)
 
     -- no count is at its most
-    pub first-low : countOf reads (stepAt bytes count i .smaller) < 65535
-    first-low = omega (arith, count-most reads (stepAt bytes count i .smaller), w .few)
+    pub first-low : countOf reads (stepAt bytes i .smaller) < 65535
+    first-low = omega (arith, count-most reads (stepAt bytes i .smaller), w .few)
 
-    pub second-low : countOf first (stepAt bytes count i .larger) < 65535
-    second-low = omega (arith, count-most first (stepAt bytes count i .larger), sum-one-most reads (stepAt bytes count i .smaller), w .few)
+    pub second-low : countOf first (stepAt bytes i .larger) < 65535
+    second-low = omega (arith, count-most first (stepAt bytes i .larger), sum-one-most reads (stepAt bytes i .smaller), w .few)
 
-    pub count-more : Counted bytes count start both-read (i + 1)
+    pub count-more : CountedSoFar bytes count start both-read (i + 1)
     unfolding sourcesOf countAll flatMap
     count-more =
         record {
           room = w .room;
           within = omega arith;
-          few = omega (arith, sum-one-most first (stepAt bytes count i .larger), sum-one-most reads (stepAt bytes count i .smaller), w .few);
+          few = omega (arith, sum-one-most first (stepAt bytes i .larger), sum-one-most reads (stepAt bytes i .smaller), w .few);
           rest = w .rest ∙ ap (λ (steps : List Step). countAll reads (sourcesOf steps)) (from-next bytes count i h);
         }
 

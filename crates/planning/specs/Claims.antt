@@ -50,7 +50,14 @@ pub record ReadsClaims (f : Family) (k : ℕ) (counts : List ℕ) (steps : List 
   pub times : (j : ℕ) → countOf (countAll counts (sourcesOf steps)) j ≡ countOf counts j + timesRead j steps
   -- and all of them together two more for each step
   pub sum : sumOf (countAll counts (sourcesOf steps)) ≡ sumOf counts + 2 * length steps
+  -- a step reads a number once at most
+  pub once : (j : ℕ) → timesRead j steps ≤ length steps
 
 abbrev pub ReadsClaim : Type 0
 ReadsClaim = (f : Family) (k : ℕ) → KInRange f k → (marks : List Bool) (counts : List ℕ) (steps : List Step) → length counts ≡ 256 → CanMakeAll f k marks steps
     → ReadsClaims f k counts steps
+
+-- a step that can be made reads no missing node, and so not the one that it repairs
+abbrev pub LiveReadsClaim : Type 0
+LiveReadsClaim = (f : Family) (k : ℕ) (marks : List Bool) (step : Step) → CanMake f k marks step
+    → (j : ℕ) → isLive marks j ≡ false → timesRead j (step ∷ []) ≡ 0

@@ -107,7 +107,7 @@ module _ (input : List ℕ) (passes : checkedBox input .refusal ≡ 0) (short : 
   names-are : namesIn refilled ≡ names
   names-are = ap namesIn is-written ∙ wrote .names
 
-  -- its session is the one that it was written from, as it was before any step
+  -- its session is the one that it was written from, with zeros in its counts
   checked : checkedBox refilled ≡ record { refusal = 0; session = afresh next }
   checked = ap checkedBox is-written ∙ write-live-claim next after lent room (after-fits input passes zeros zeros-fit .arrays .marks) (ap (λ (r : Written). r .refusal) (lists .answer)) writes
 
@@ -215,7 +215,7 @@ module _ (input : List ℕ) (passes : checkedBox input .refusal ≡ 0) (short : 
   reads-again : readBox first (zeros first passes-again short-again) .refusal ≡ 0
   reads-again = reads first passes-again (zeros first passes-again short-again) (zeros-fit first passes-again short-again)
 
-  -- the session is the one after the first run, as it was before any step
+  -- the session is the one after the first run, with zeros in its counts
   session-again : readBox first (zeros first passes-again short-again) .session ≡ afresh (next input passes short)
   session-again =
       ap (λ (r : Started). r .session) (read-is first passes-again (zeros first passes-again short-again) (zeros-fit first passes-again short-again) ∙ checked input passes short)

@@ -1,4 +1,4 @@
--- A session once steps are made: one list of steps after another, and that it can stand as the session before them can.
+-- A session once steps are made: one list of steps after another, and that it is sound where the session before them is.
 -- Assumes nothing.
 use mathlib.Core.Path.{_≡_, sym, ap, _∙_}
 use mathlib.Core.Bool.{Bool, false}
@@ -6,7 +6,7 @@ use mathlib.Core.List.{List, [], _++_, flatMap}
 use Prim.Native.Nat.{ℕ, _+_}
 use native.Mathlib.Nat.{add-zero}
 use native.Mathlib.Omega.{arith}
-use lib.ListN.{length, length-append}
+use lib.ListN.{length-append}
 use Rattle.families.specs.Families.{familyOf}
 use Rattle.lists.specs.Lists.{setLive}
 use Rattle.lists.proofs.Laws.{length-setLive, live-outside-none}

@@ -14,8 +14,8 @@ pub mod RepairsProved
 pub mod LeftOverLaws
 pub mod CallLaws
 pub mod LeftOverProved
-pub mod ReadsProved
 pub mod FitsLaws
 pub mod WholeWayProved
 pub mod RefusalsProved
+pub mod ReadsProved
 pub mod AcceptsProved

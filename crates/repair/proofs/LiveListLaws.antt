@@ -75,7 +75,7 @@ module _ (s : Session) (out : List ℕ) where
 
 -- ---- a start by the live nodes, and the live nodes of a start
 
--- it gives the session as it was before any step
+-- it gives the session with zeros in its counts
 pub live-starts : (s : Session) → length (s .live) ≡ 256 → unsound s ≡ false → started (s .family) (s .k) (s .len) (liveNodesOf s) ≡ acceptedStart (afresh s)
 unfolding started
 live-starts s size e =

@@ -2,12 +2,13 @@
 -- Assumes nothing.
 use mathlib.Core.Path.{_≡_, refl, sym, ap, _∙_, subst}
 use mathlib.Core.Bool.{true, false, not, false≢true}
-use mathlib.Core.List.{List, [], _∷_, flatMap}
-use Prim.Native.Nat.{ℕ, zero, suc, _≤_, _<_}
+use mathlib.Core.List.{List, [], flatMap}
+use Prim.Native.Nat.{ℕ, suc, _≤_, _<_}
 use native.Mathlib.Omega.{arith}
 use borrow.Author.Tests.{lt-ltb, le-ltb, eq-eqb, ne-eqb, ltb-true}
 use lib.Dec.{ltb}
-use lib.ListN.{length, getD}
+use lib.ListN.{length}
+use Rattle.base.proofs.ListLaws.{within}
 use Rattle.families.specs.Families.{familyOf, nodeCount}
 use Rattle.families.proofs.Laws.{few}
 use Rattle.checks.specs.Checks.{firstMet}
@@ -41,12 +42,6 @@ start-claim family k L list = (
   (λ h. let a = accepted-start family k L list (start-accepted family k L list h) in (a .range, a .outside, a .rising)),
   (λ p. rw (start-0 family k L list (parameters-in family k L (p .0)) (p .1) (p .2))),
 )
-
--- what is not the default stands in the list
-within : {A : Type 0} (list : List A) (d : A) (j : ℕ) → (getD list j d ≡ d → ⊥) → j < length list
-within [] d j h = absurd (h refl)
-within (x ∷ list) d zero h = omega arith
-within (x ∷ list) d (suc j) h = omega (arith, within list d j h)
 
 pub sound-claim : SoundClaim
 sound-claim s arrays = (to, back)

@@ -22,6 +22,7 @@ use Rattle.repair.proofs.Accepted.{start-accepted}
 use Rattle.repair.proofs.StartLaws.{start-sound, start-arrays}
 use Rattle.repair.proofs.AfterLaws.{after-arrays, after-sound}
 use Rattle.repair.proofs.Proved.{sound-claim}
+use Rattle.repair.proofs.RefusalsProved.{not-thirteen-claim}
 use Rattle.repair.proofs.CallLaws.{FromStart, from-start}
 use Rattle.repair.proofs.LeftOverProved.{session-is, made-makes}
 
@@ -64,7 +65,7 @@ module _ (family k L : ℕ) (list : List ℕ) (start : FromStart family k L list
         reads = λ j h. ap (λ (s : Session). countOf (s .reads) j) is ∙ reads-claim (familyOf family) k (start .range) _ noCounts made refl (made-makes family k L list start calls) .times j ∙ rw (getD-replicate {A = ℕ} 256 j 0 0 h) (omega arith);
         sum = holds .sum;
         none = λ j out. none-read j out (countOf (last .reads) j) refl;
-        sound = still-sound;
+        not-13 = not-thirteen-claim last still-sound;
       }
 
 pub counted-claim : CountedClaim

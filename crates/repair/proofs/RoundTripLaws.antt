@@ -168,7 +168,7 @@ module _ (bytes : List ℕ) (a : AcceptedBox bytes) where
   names-live : someMissing (sessionIn bytes .live) (namesIn bytes) ≡ false
   names-live = rw names-are at (live-nodes-live (sessionIn bytes .live) (nodeCountIn bytes))
 
-  -- that session can stand
+  -- that session is sound
   pub box-sound : unsound (sessionIn bytes) ≡ false
   box-sound = start-sound (familyIn bytes) (kIn bytes) (blockLengthIn bytes) (namesIn bytes) (a .range) (a .nodes)
 

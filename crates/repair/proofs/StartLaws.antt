@@ -95,7 +95,7 @@ module _ (s : Session) where
     unfolding unsound
     unsound-counts o = rw (e, o)
 
-  -- a session that can stand
+  -- a sound session
   pub record Known : Type 0 where
     pub range : InRange (s .family) (s .k) (s .len)
     pub inside : liveOutside (nodeCountOf s) (s .live) ≡ false

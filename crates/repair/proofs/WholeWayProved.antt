@@ -73,7 +73,7 @@ fits-claim =
       write = λ s nodes room out f. fits-write s nodes room f out;
     }
 
--- a start by the list gives the session that it was listed from, as it was before any step
+-- a start by the list gives the session that it was listed from, with zeros in its counts
 pub write-live-claim : WriteLiveClaim
 write-live-claim s nodes room out size l h =
     let list = listLeft s room in

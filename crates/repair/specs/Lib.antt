@@ -6,8 +6,8 @@ pub mod Step
 pub mod Repairs
 pub mod Calls
 pub mod LeftOver
-pub mod Reads
 pub mod Claims
 pub mod RepairClaims
 pub mod Refusals
+pub mod Reads
 pub mod WholeWay

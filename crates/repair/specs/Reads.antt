@@ -1,7 +1,6 @@
 -- Reads by node, and steps since the start (document 02, K8): what the counts of a session are after a whole list of calls;
 -- proofs/ReadsProved.antt has the proofs.
 use mathlib.Core.Path.{_≡_}
-use mathlib.Core.Bool.{false}
 use mathlib.Core.List.{List}
 use Prim.Native.Nat.{ℕ, _*_, _<_}
 use lib.ListN.{length}
@@ -9,9 +8,10 @@ use Rattle.families.specs.Families.{familyOf, IsNode}
 use Rattle.counts.specs.Counts.{countOf, sumOf}
 use Rattle.planning.specs.Plan.{timesRead}
 use Rattle.repair.specs.declared.Session.{Session}
-use Rattle.repair.specs.Session.{started, unsound}
+use Rattle.repair.specs.Session.{started}
 use Rattle.repair.specs.Calls.{Call, madeAfter}
 use Rattle.repair.specs.LeftOver.{lastSession}
+use Rattle.repair.specs.Refusals.{NotThirteen}
 
 -- of a start's family, k, L and list, and a list of calls
 pub record Counted (family k L : ℕ) (list : List ℕ) (calls : List Call) : Type 0 where
@@ -23,8 +23,8 @@ pub record Counted (family k L : ℕ) (list : List ℕ) (calls : List Call) : Ty
   pub sum : sumOf (lastSession family k L list calls .reads) ≡ 2 * lastSession family k L list calls .steps
   -- those for 0 and above n are 0
   pub none : (j : ℕ) → (IsNode (familyOf family) k j → ⊥) → countOf (lastSession family k L list calls .reads) j ≡ 0
-  -- and the session is never turned away with 13 (`NotThirteenClaim`)
-  pub sound : unsound (lastSession family k L list calls) ≡ false
+  -- and no operation turns the session away with 13
+  pub not-13 : NotThirteen (lastSession family k L list calls)
 
 -- for every accepted start and every list of calls, refused ones included
 abbrev pub CountedClaim : Type 0

@@ -60,28 +60,27 @@ pub record RefusalClaim : Type 0 where
   pub run : (s : Session) (nodes : List ℕ) → Refused (ran s nodes .refusal)
       → (ran s nodes ≡ noSteps s (ran s nodes .refusal)) × (nodesRan s nodes ≡ nodes)
 
--- every operation of a session gives 13, whatever is asked for
-pub record Thirteen (s : Session) : Type 0 where
-  pub write : (nodes list out : List ℕ) → written s nodes list out .refusal ≡ 13
-  pub live : (out : List ℕ) → liveListed s out .refusal ≡ 13
-  pub read-out : (nodes object : List ℕ) → readOut s nodes object .refusal ≡ 13
-  pub step : (nodes : List ℕ) (j a b : ℕ) → stepped s nodes j a b .refusal ≡ 13
-  pub plan : (out : List ℕ) → planned s out .refusal ≡ 13
-  pub run : (nodes : List ℕ) → ran s nodes .refusal ≡ 13
+-- this is so of the number that each operation of a session gives, whatever is asked for
+pub record Numbers (s : Session) (So : ℕ → Type 0) : Type 0 where
+  pub write : (nodes list out : List ℕ) → So (written s nodes list out .refusal)
+  pub live : (out : List ℕ) → So (liveListed s out .refusal)
+  pub read-out : (nodes object : List ℕ) → So (readOut s nodes object .refusal)
+  pub step : (nodes : List ℕ) (j a b : ℕ) → So (stepped s nodes j a b .refusal)
+  pub plan : (out : List ℕ) → So (planned s out .refusal)
+  pub run : (nodes : List ℕ) → So (ran s nodes .refusal)
 
--- where the session cannot stand
+-- every operation gives 13
+abbrev pub Thirteen : Session → Type 0
+Thirteen s = Numbers s (λ number. number ≡ 13)
+
+-- where the session is unsound
 abbrev pub ThirteenClaim : Type 0
 ThirteenClaim = (s : Session) → unsound s ≡ true → Thirteen s
 
--- no operation of a session gives 13, whatever is asked for
-pub record NotThirteen (s : Session) : Type 0 where
-  pub write : (nodes list out : List ℕ) → written s nodes list out .refusal ≡ 13 → ⊥
-  pub live : (out : List ℕ) → liveListed s out .refusal ≡ 13 → ⊥
-  pub read-out : (nodes object : List ℕ) → readOut s nodes object .refusal ≡ 13 → ⊥
-  pub step : (nodes : List ℕ) (j a b : ℕ) → stepped s nodes j a b .refusal ≡ 13 → ⊥
-  pub plan : (out : List ℕ) → planned s out .refusal ≡ 13 → ⊥
-  pub run : (nodes : List ℕ) → ran s nodes .refusal ≡ 13 → ⊥
+-- no operation gives 13
+abbrev pub NotThirteen : Session → Type 0
+NotThirteen s = Numbers s (λ number. number ≡ 13 → ⊥)
 
--- where it can
+-- where it is sound
 abbrev pub NotThirteenClaim : Type 0
 NotThirteenClaim = (s : Session) → unsound s ≡ false → NotThirteen s

@@ -25,7 +25,7 @@ use Rattle.repair.specs.Calls.{Move, step, run, called, stateAfter}
 
 -- ---- step
 
--- a step is accepted exactly where the session can stand, the nodes buffer is n × L bytes, and the step can be made: the node is
+-- a step is accepted exactly where the session is sound, the nodes buffer is n × L bytes, and the step can be made: the node is
 -- missing, and the two others are live and related to it
 abbrev pub StepClaim : Type 0
 StepClaim = (s : Session) (nodes : List ℕ) (j a b : ℕ)
@@ -40,7 +40,7 @@ StepKeepsClaim = (s : Session) (nodes : List ℕ) (j a b : ℕ) → stepped s no
 
 -- ---- plan, run, write, the live nodes and read out
 
--- the session can stand, and the nodes buffer is n × L bytes
+-- the session is sound, and the nodes buffer is n × L bytes
 abbrev pub Suits : Session → List ℕ → Type 0
 Suits s nodes = (unsound s ≡ false) × (length nodes ≡ nodeCountOf s * s .len)
 
@@ -60,7 +60,7 @@ pub record Accepts (s : Session) : Type 0 where
 abbrev pub AcceptsClaim : Type 0
 AcceptsClaim = (s : Session) → Accepts s
 
--- ---- a session that can stand
+-- ---- a sound session
 
 -- it is handed back as one, by a step and by a run, refused or not
 abbrev pub StaysClaim : Type 0

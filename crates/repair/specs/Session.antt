@@ -14,11 +14,11 @@ use Rattle.planning.specs.Plan.{nodesLeft}
 use Rattle.repair.specs.declared.Session.{Session}
 use Rattle.repair.specs.declared.Started.{Started}
 
--- a session of a family, k, L and marks before any step: no steps, and no reads of any number
+-- a session of a family, k, L and marks with nothing counted: no steps, and no reads of any number
 abbrev pub sessionWith : ℕ → ℕ → ℕ → List Bool → Session
 sessionWith family k L marks = record { family = family; k = k; len = L; steps = 0; live = marks; reads = noCounts }
 
--- the session of the same family, k, L and marks before any step
+-- the session of the same family, k, L and marks with nothing counted
 abbrev pub afresh : Session → Session
 afresh s = sessionWith (s .family) (s .k) (s .len) (s .live)
 
@@ -51,7 +51,7 @@ started family k L list = answer (startChecks family k L list) (acceptedStart (s
 abbrev pub nodeCountOf : Session → ℕ
 nodeCountOf s = nodeCount (familyOf (s .family)) (s .k)
 
--- the counts cannot stand: the reads do not sum to twice the steps, a read count stands against 0 or above n, or steps and missing
+-- the counts are wrong: the reads do not sum to twice the steps, a read count stands against 0 or above n, or steps and missing
 -- nodes exceed n
 unfoldable pub miscounted : Session → Bool
 miscounted s =
@@ -59,7 +59,8 @@ miscounted s =
     || (countedOutside (nodeCountOf s) (s .reads)
     || ltb (nodeCountOf s) (s .steps + nodesLeft (s .live) (nodeCountOf s)))
 
--- 13, for these and nothing else: its family, k or L is out of range, a mark for 0 or above n is live, or its counts cannot stand
+-- 13, for these and nothing else: its family, k or L is out of range, a mark for 0 or above n is live, or its counts are wrong.
+-- A session without any of these faults is called sound
 unfoldable pub unsound : Session → Bool
 unsound s =
     not (eqb (firstMet (parameterChecks (s .family) (s .k) (s .len))) 0)

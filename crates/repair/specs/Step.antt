@@ -28,7 +28,7 @@ abbrev pub afterSteps : Session → List Step → Session
 afterSteps s made =
     record { family = s .family; k = s .k; len = s .len; steps = s .steps + length made; live = marksAfter (s .live) made; reads = countAll (s .reads) (sourcesOf made) }
 
--- the step that a caller names; it is of no round
+-- the step that a caller names, its pair in the order named; it is of no round
 abbrev pub namedStep : ℕ → ℕ → ℕ → Step
 namedStep j a b = record { round = 0; node = j; smaller = a; larger = b }
 

@@ -27,7 +27,7 @@ use Rattle.repair.specs.RepairClaims.{LiveAreOwn}
 
 -- ---- a session and a nodes buffer that go together
 
--- the session can stand, and the nodes buffer has its n × L bytes
+-- the session is sound, and the nodes buffer has its n × L bytes
 pub record Fits (s : Session) (nodes : List ℕ) : Type 0 where
   pub arrays : Arrays s
   pub sound : unsound s ≡ false
@@ -57,7 +57,7 @@ pub record FitsClaim : Type 0 where
   pub write : (s : Session) (nodes room out : List ℕ) → Fits s nodes → liveListed s room .refusal ≡ 0 → boxLength (nodeCountOf s) (s .len) ≤ length out
       → written s nodes (listLeft s room) out .refusal ≡ 0
 
--- the box of every live node checks to the session that it was written from, as it was before any step
+-- the box of every live node checks to a session of the same family, k, L and marks, with zeros in its counts
 abbrev pub WriteLiveClaim : Type 0
 WriteLiveClaim = (s : Session) (nodes room out : List ℕ) → length (s .live) ≡ 256 → liveListed s room .refusal ≡ 0
     → written s nodes (listLeft s room) out .refusal ≡ 0 → checkedBox (boxWritten s nodes (listLeft s room) out) ≡ acceptedStart (afresh s)

@@ -11,7 +11,7 @@ ghost use lib.ListN.{replicate};
 ghost use Rattle.repair.specs.Boxed.{refusedWrite};
 
 // A family, k and L, the steps made since the start, a mark for each node number, live or missing, and how often each was read by
-// steps. It is plain data: whatever a caller puts into one, an operation first checks that it can stand.
+// steps. It is plain data: whatever a caller puts into one, an operation first checks that it is sound.
 pub struct Session {
     pub family: usize,
     pub k: usize,

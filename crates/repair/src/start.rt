@@ -1,4 +1,4 @@
-// Start, and whether a session can stand.
+// Start, and whether a session is sound.
 use crate::Session;
 use crate::Started;
 ghost use mathlib.Core.Path.{_≡_};
@@ -59,8 +59,8 @@ impl Session {
         }
     }
 
-    // Whether the counts cannot stand, by n and the number of live nodes. Steps and missing nodes exceed n where there are more steps
-    // than live nodes; fewer steps can be doubled.
+    // Whether the counts are wrong, by n and the number of live nodes. Steps and missing nodes exceed n where there are more steps
+    // than live nodes: asked first, so that the steps are at most 255 and twice as many fit a machine word.
     fn is_miscounted(self, n: usize, live: usize) -> bool
         requires { ⌜ (n ≡ nodeCountOf self) × (n ≤ 255) × (live ≡ length (liveNodes (self .live) n)) ⌝ }
         ensures { λ r. ⌜ r ≡ miscounted self ⌝ }
@@ -75,7 +75,7 @@ impl Session {
         counts::sum(reads) != 2 * self.steps
     }
 
-    // Whether the session cannot stand: it is turned away with 13.
+    // Whether the session is turned away with 13.
     pub fn is_unsound(self) -> bool
         ensures { λ r. ⌜ r ≡ unsound self ⌝ }
     {

@@ -4,12 +4,12 @@ use Prim.Native.Nat.{_+_, _-_, _*_, _≤_}
 use native.Mathlib.Omega.{arith}
 use borrow.Author.Needs.{needs}
 use lib.ListN.{length}
-use Rattle.planning.proofs.CarryLaws.{Counted, count-none, first-low, second-low, count-more, count-done}
+use Rattle.planning.proofs.CarryLaws.{CountedSoFar, count-none, first-low, second-low, count-more, count-done}
 use Rattle.planning.proofs.carry.count_reads.Statement.{statement}
 use Rattle.planning.proofs.carry.count_reads.Tie as tie
 
 abbrev Inv-loop : tie.InvT-loop
-Inv-loop steps count reads₀ i₀ reads i = Counted steps count reads₀ reads i
+Inv-loop steps count reads₀ i₀ reads i = CountedSoFar steps count reads₀ reads i
 
 abbrev μ-loop : tie.MeasureT-loop
 μ-loop steps count reads₀ i₀ reads i = count - i
