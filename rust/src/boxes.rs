@@ -132,9 +132,9 @@ impl Session {
         Session::from_answer(&raw::check(bytes))
     }
 
-    /// A box read into a nodes buffer of exactly n × L bytes, which gives the session that [`check`](Session::check) gives. Each body goes to its node's place;
-    /// places of missing nodes keep their bytes, so that several boxes of one object can be read into one buffer. A
-    /// [`start`](Session::start) with the nodes of all of them then gives the session.
+    /// A box read into a nodes buffer of exactly n × L bytes, which gives the session that [`check`](Session::check) gives.
+    /// Each body goes to its node's place; places of missing nodes keep their bytes, so that several boxes of one object can
+    /// be read into one buffer. A [`start`](Session::start) with the nodes of all of them then gives the session.
     ///
     /// How long the buffer has to be is known from [`check`](Session::check) and [`nodes_len`](Session::nodes_len).
     ///

@@ -18,8 +18,8 @@ pub const MARKS: usize = raw::MARKS;
 ///
 /// [`start`](Session::start) makes one from a list of live nodes, [`check`](Session::check) and [`read`](Session::read) from
 /// a box. [`step`](Session::step) and [`run`](Session::run) change it where they are served, and leave it where they are
-/// turned away; no other call changes it. They count too: [`steps`](Session::steps)
-/// says how many steps were made, and [`reads`](Session::reads) how often each node was read.
+/// turned away; no other call changes it. They count too: [`steps`](Session::steps) says how many steps were made, and
+/// [`reads`](Session::reads) how often each node was read.
 ///
 /// A session is no `Copy`, so that a call cannot work on a copy from before another call by mistake. A clone is such a
 /// copy, made on purpose.
