@@ -89,18 +89,20 @@ fn marks_of_bytes(bytes: [u8; 256]) -> [bool; 256]
     marks
 }
 
-// Whether a byte is neither 0 nor 1.
+// Whether a byte is neither 0 nor 1. All are gone through, so that the compiler can compare many at a time.
 fn some_above_1(bytes: [u8; 256]) -> bool
     ensures { λ r. ⌜ r ≡ someAbove1 bytes ⌝ }
 {
+    let mut above = false;
     let mut j: usize = 0;
     while j < 256 {
-        if 1 < bytes[j] {
-            return true;
-        }
+        let byte = bytes[j];
         j += 1;
+        if 1 < byte {
+            above = true;
+        }
     }
-    false
+    above
 }
 
 impl MarkedSession {

@@ -1,7 +1,9 @@
--- `mogtriz::sessions::some_above_1` meets its contract: before each turn the answer is that of the bytes from place j on.
+-- `mogtriz::sessions::some_above_1` meets its contract: before each turn the answer is that one was seen or is among the bytes from place
+-- j on.
 -- Assumes nothing.
 use borrow.Author.Needs.{needs}
 use mathlib.Core.Path.{_≡_, refl, sym, _∙_}
+use mathlib.Core.Bool.{_||_, or-true, or-false}
 use Prim.Native.Nat.{_-_, _≤_}
 use native.Mathlib.Numerals.{add-one}
 use native.Mathlib.Omega.{arith}
@@ -13,26 +15,31 @@ use Rattle.mogtriz.proofs.sessions.some_above_1.Statement.{statement}
 use Rattle.mogtriz.proofs.sessions.some_above_1.Tie as tie
 
 abbrev Inv-loop : tie.InvT-loop
-Inv-loop bytes j₀ j = (j ≤ 256) × (someAbove1 bytes ≡ someAbove1 (drop j bytes))
+Inv-loop bytes above₀ j₀ above j = (j ≤ 256) × (someAbove1 bytes ≡ (above || someAbove1 (drop j bytes)))
 
 abbrev μ-loop : tie.MeasureT-loop
-μ-loop bytes j₀ j = 256 - j
-
-returns : tie.Need-returns Inv-loop μ-loop
-unfolding someAbove1
-returns c =
-    let l = c .before .before .loop in
-    sym (l .inv .1 ∙ rw (drop-cons (c .before .before .before .args .t1) (l .j) 0 (omega arith), lt-ltb 1 _ (c .if1 .taken)))
+μ-loop bytes above₀ j₀ above j = 256 - j
 
 loop-again : tie.Need-loop-again Inv-loop μ-loop
 unfolding someAbove1
 loop-again c =
-    let l = c .before .before .loop in
-    (omega arith, l .inv .1 ∙ rw (drop-cons (c .before .before .before .args .t1) (l .j) 0 (omega arith), le-ltb 1 _ (c .if1 .left), add-one))
+    let t : tie.At-loop Inv-loop μ-loop = search in
+    let e : tie.Start Inv-loop μ-loop = search in
+    (omega arith, t .loop .inv .1 ∙ rw (drop-cons (e .args .t1) (t .loop .j) 0 (omega arith), lt-ltb 1 _ (c .if1 .taken), or-true))
 
-returns-2 : tie.Need-returns-2 Inv-loop μ-loop
+loop-again-2 : tie.Need-loop-again-2 Inv-loop μ-loop
 unfolding someAbove1
-returns-2 c = sym (c .before .loop .inv .1 ∙ rw (drop-of-length-le (c .before .before .args .t1) {i = c .before .loop .j} (omega arith)))
+loop-again-2 c =
+    let t : tie.At-loop Inv-loop μ-loop = search in
+    let e : tie.Start Inv-loop μ-loop = search in
+    (omega arith, t .loop .inv .1 ∙ rw (drop-cons (e .args .t1) (t .loop .j) 0 (omega arith), le-ltb 1 _ (c .if1 .left), add-one))
+
+returns : tie.Need-returns Inv-loop μ-loop
+unfolding someAbove1
+returns c =
+    let t : tie.At-loop Inv-loop μ-loop = search in
+    let e : tie.Start Inv-loop μ-loop = search in
+    sym (t .loop .inv .1 ∙ rw (drop-of-length-le (e .args .t1) {i = t .loop .j} (omega arith), or-false))
 
 pub some-above-1-spec : {M : Type 1} → statement M
 some-above-1-spec =
@@ -42,8 +49,9 @@ some-above-1-spec =
     μ-loop
     (λ c. (omega arith, refl))
     (λ c. search needs)
-    returns
-    (λ c. omega arith)
+    (λ c. search needs)
     (λ c. omega arith)
     loop-again
-    returns-2)
+    (λ c. omega arith)
+    loop-again-2
+    returns)
