@@ -93,7 +93,7 @@ pub record RunClaims (s : Session) (nodes : List ℕ) : Type 0 where
       → blockOf (s .len) (nodesRan s nodes) j ≡ blockOf (s .len) nodes j
   pub live-kept : (j : ℕ) → IsNode (familyOf (s .family)) (s .k) j → isLive (s .live) j ≡ true
       → blockOf (s .len) (nodesRan s nodes) j ≡ blockOf (s .len) nodes j
-  -- a run after it repairs nothing, in its session and in every other of the same family, k, L and marks
+  -- a run after it repairs nothing, in its session and in every other sound one of the same family, k, L and marks
   pub again : (next : Session) (other : List ℕ) → afresh next ≡ afresh (ran s nodes .session) → unsound next ≡ false → length other ≡ nodeCountOf s * s .len
       → RunAgain s nodes next other
 
