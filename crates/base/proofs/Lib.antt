@@ -5,3 +5,5 @@ pub mod Fill
 pub mod First
 pub mod RangeLaws
 pub mod ListLaws
+pub mod EachLaws
+pub mod Reduce

@@ -1,9 +1,9 @@
--- The numbers of a range that pass a test: those of one range after another, from the first of them on, and how many they are; a number
--- outside a range; a value for each number of one.
+-- The numbers of a range that pass a test: those of one range after another, from the first of them on, which and how many they are; a
+-- number outside a range; a value for each number of one.
 -- Assumes nothing.
 use mathlib.Core.Path.{_≡_, refl, sym, ap, _∙_}
 use mathlib.Core.Bool.{Bool, true, false, cond, not, _||_}
-use mathlib.Core.List.{List, [], _∷_, _++_, append-nil}
+use mathlib.Core.List.{List, List·Memᴰ, List·Memᴰ·head, List·Memᴰ·tail, List·Memᴰ·not-nil, [], _∷_, _++_, append-nil}
 use mathlib.Core.Logic.{_⊎_, inl, inr}
 use Prim.Native.Nat.{ℕ, zero, suc, _+_, _-_, _≤_, _<_}
 use native.Mathlib.Nat.{zero-add, add-zero, add-suc, suc-add, eq-zero-or-pos, le-of-suc-le-suc, not-suc-le-zero}
@@ -13,7 +13,7 @@ use borrow.Author.Tests.{ltb-false, lt-ltb, le-ltb}
 use lib.Dec.{ltb}
 use lib.ListN.{length, getD}
 use Rattle.base.specs.Ranges.{outside, firstFrom, thoseFrom, listFrom}
-use Rattle.base.proofs.Tests.{or-neither}
+use Rattle.base.proofs.Tests.{or-neither, not-both}
 use Rattle.base.proofs.First.{first-zero}
 
 module _ (test : ℕ → Bool) where
@@ -75,6 +75,45 @@ module _ (test : ℕ → Bool) where
       go : (firstFrom test j m ≡ 0) ⊎ (0 < firstFrom test j m) → firstFrom test j m ≡ 0
       go (inl g) = g
       go (inr g) = absurd (omega (arith, ap length (sym e ∙ those-first j m (firstFrom test j m) refl g)))
+
+  -- ---- which are among them
+
+  -- a number of the range that passes is one of those
+  pub those-has : (j m i : ℕ) → j ≤ i → i < j + m → test i ≡ true → List·Memᴰ i (thoseFrom test j m)
+  unfolding thoseFrom
+  those-has j zero i l h t = absurd (omega arith)
+  those-has j (suc m) i l h t = go (test j) refl (ℕ-discrete i j) (λ g. those-has (suc j) m i g (omega arith) t)
+    where
+      rest : List ℕ
+      rest = thoseFrom test (suc j) m
+
+      go : (b : Bool) → test j ≡ b → Dec (i ≡ j) → (suc j ≤ i → List·Memᴰ i rest) → List·Memᴰ i (cond b (j ∷ rest) rest)
+      go true e (yes q) later = List·Memᴰ·head q
+      go true e (no n) later = List·Memᴰ·tail (later (omega arith))
+      go false e (yes q) later = absurd (not-both (test i) t (ap test q ∙ e))
+      go false e (no n) later = later (omega arith)
+
+  -- what one of those is
+  pub record Passing (j m i : ℕ) : Type 0 where
+    pub from : j ≤ i
+    pub below : i < j + m
+    pub passes : test i ≡ true
+
+  pub those-are : (j m i : ℕ) → List·Memᴰ i (thoseFrom test j m) → Passing j m i
+  unfolding thoseFrom
+  those-are j zero i h = absurd (List·Memᴰ·not-nil h)
+  those-are j (suc m) i h = go (test j) refl h (λ g. those-are (suc j) m i g)
+    where
+      rest : List ℕ
+      rest = thoseFrom test (suc j) m
+
+      wider : Passing (suc j) m i → Passing j (suc m) i
+      wider p = record { from = omega (arith, p .from); below = omega (arith, p .below); passes = p .passes }
+
+      go : (b : Bool) → test j ≡ b → List·Memᴰ i (cond b (j ∷ rest) rest) → (List·Memᴰ i rest → Passing (suc j) m i) → Passing j (suc m) i
+      go true e (List·Memᴰ·head q) later = record { from = omega arith; below = omega arith; passes = ap test q ∙ e }
+      go true e (List·Memᴰ·tail g) later = wider (later g)
+      go false e g later = wider (later g)
 
   -- ---- how many
 

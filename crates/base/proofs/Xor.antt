@@ -41,6 +41,10 @@ xor-assoc =
 pub xor-cancel : (a b : ℕ) → bitXor a (bitXor a b) ≡ b
 xor-cancel a b = sym (xor-assoc a a b) ∙ ap (λ (x : ℕ). bitXor x b) (xor-self a)
 
+-- what is XORed with the same number to the same is the same
+pub xor-same : (a b c : ℕ) → bitXor a b ≡ bitXor a c → b ≡ c
+xor-same a b c h = sym (xor-cancel a b) ∙ ap (bitXor a) h ∙ xor-cancel a c
+
 pub xor-left-comm : (a b c : ℕ) → bitXor a (bitXor b c) ≡ bitXor b (bitXor a c)
 xor-left-comm a b c = sym (xor-assoc a b c) ∙ ap (λ (x : ℕ). bitXor x c) (xor-comm a b) ∙ xor-assoc b a c
 

@@ -1,4 +1,5 @@
 pub mod Linear
+pub mod SideLaws
 pub mod Nodes
 pub mod Answers
 pub mod Proved

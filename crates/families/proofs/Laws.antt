@@ -3,6 +3,7 @@
 -- Assumes nothing.
 use mathlib.Core.Path.{_≡_, refl, sym, ap, ap₂, _∙_, subst}
 use mathlib.Core.Bool.{Bool, true}
+use mathlib.Core.Logic.{_⊎_}
 use Prim.Native.Nat.{ℕ, zero, suc, _+_, _-_, _*_, _^_, _≤_, _<_}
 use native.Mathlib.Nat.{pow-suc, zero-add, zero-mul, suc-mul}
 use native.Mathlib.Omega.{arith}
@@ -73,6 +74,10 @@ column-once Tetrahedron k i j r m n e =
     sym (entry i (m .first) (m .last) .back) ∙ ap (nodeOf Tetrahedron 4) e ∙ entry j (n .first) (n .last) .back
 
 -- ---- the node of a column
+
+-- c is 0 or a node's column
+abbrev pub ZeroOrNode : Family → ℕ → ℕ → Type 0
+ZeroOrNode f k c = (c ≡ 0) ⊎ (1 ≤ nodeOf f k c)
 
 module _ (f : Family) (k : ℕ) (r : KInRange f k) where
   test : ℕ → ℕ → Bool

@@ -6,47 +6,17 @@ use mathlib.Core.Logic.{_⊎_, inl, inr, ⊎-elim}
 use Prim.Native.Nat.{ℕ, suc, _-_, _^_, _≤_, _<_}
 use native.Mathlib.Decide.{ℕ-discrete}
 use native.Mathlib.Omega.{arith}
-use borrow.Author.Tests.{ltb-true}
 use lib.Bits.{bitXor, xor-self, xor-lt}
-use lib.Dec.{ltb}
-use lib.ListN.{getD}
-use Rattle.base.proofs.Tests.{allBelow, all-below, not-both}
+use Rattle.base.proofs.Tests.{not-both}
 use Rattle.base.proofs.Xor.{xor-assoc, xor-cancel}
 use Rattle.families.specs.declared.Family.{Family}
-use Rattle.families.specs.declared.Family.the-variants.{Simplex, Tetrahedron}
-use Rattle.families.specs.Families.{KInRange, IsNode, nodeCount, columnOf, nodeOf}
-use Rattle.families.proofs.Laws.{column, node-is, zero-none, simplex-below}
-use Rattle.families.proofs.Proved.{tetrahedron-claim}
-use Rattle.families.proofs.TetrahedronLaws.{nodes, node-entry}
+use Rattle.families.specs.Families.{KInRange, IsNode, columnOf}
+use Rattle.families.proofs.FullLaws.{Full}
+use Rattle.families.proofs.Laws.{column, node-is}
 use Rattle.planning.specs.Pairs.{NoPairLeft}
 use Rattle.leftover.proofs.Cut.{Cut}
 use Rattle.leftover.proofs.Known.{known, known-zero, known-live, known-below, known-xor, missing-unknown}
 use Rattle.leftover.proofs.Separate.{Above, Separated, separate, widened, widen, widen-by, widened-apart, xor-undo}
-
--- the columns are all the numbers of k digits but 0 and one more, the hole
-pub record Full (f : Family) (k hole : ℕ) : Type 0 where
-  pub every : (c : ℕ) → 1 ≤ c → c < 2 ^ k → (c ≡ hole → ⊥) → 1 ≤ nodeOf f k c
-  pub none-at-hole : nodeOf f k hole ≡ 0
-
--- here the hole is 0 itself
-pub simplex-full : (k : ℕ) → KInRange Simplex k → Full Simplex k 0
-simplex-full k r = record { every = λ c h l n. omega (arith, simplex-below k c r l); none-at-hole = zero-none Simplex k r }
-
-abbrev entry-test : ℕ → Bool
-entry-test i = ltb 0 (getD nodes (suc i) 0)
-
-pub tetrahedron-full : (k : ℕ) → KInRange Tetrahedron k → Full Tetrahedron k 15
-unfolding allBelow nodeOf columnOf nodeCount
-tetrahedron-full k r = record { every = λ c h l n. every c h (rw four at l) n; none-at-hole = tetrahedron-claim }
-  where
-    four : k ≡ 4
-    four = omega (arith, r .least, r .most)
-
-    every : (c : ℕ) → 1 ≤ c → c < 16 → (c ≡ 15 → ⊥) → 1 ≤ nodeOf Tetrahedron 4 c
-    every c h l n =
-        let e : suc (c - 1) ≡ c = omega arith in
-        let t : 0 < getD nodes (suc (c - 1)) 0 = ltb-true 0 (getD nodes (suc (c - 1)) 0) (all-below entry-test 14 refl (c - 1) (omega arith)) in
-        rw (node-entry c l) (rw e at t)
 
 module _ (f : Family) (k hole : ℕ) (r : KInRange f k) (full : Full f k hole) (live : ℕ → Bool) (done : NoPairLeft f k live) where
   abbrev S : ℕ → Bool

@@ -13,7 +13,7 @@ use Rattle.base.proofs.Tests.{and-left, and-right, is-false, not-both}
 use Rattle.base.proofs.Xor.{xor-third-of}
 use Rattle.families.specs.declared.Family.{Family}
 use Rattle.families.specs.Families.{KInRange, IsNode, columnOf, nodeOf, areRelated}
-use Rattle.families.proofs.Laws.{column, column-once, node-is, node-of}
+use Rattle.families.proofs.Laws.{ZeroOrNode, column, column-once, node-is, node-of}
 use Rattle.planning.specs.Pairs.{NoPairLeft}
 use Rattle.leftover.proofs.Tests.{or-either}
 
@@ -75,11 +75,10 @@ module _ (f : Family) (k : ℕ) (r : KInRange f k) (live : ℕ → Bool) where
         go false l = absurd (done j a b nj na nb l la lb (eq-eqb _ 0 (xor-third-of (columnOf f k a) (columnOf f k b) (columnOf f k j) e)))
 
     -- the XOR of two known columns, where it is 0 or a node's column
-    pub known-xor : (x y : ℕ) → known x ≡ true → known y ≡ true
-        → (bitXor x y ≡ 0) ⊎ (1 ≤ nodeOf f k (bitXor x y)) → known (bitXor x y) ≡ true
+    pub known-xor : (x y : ℕ) → known x ≡ true → known y ≡ true → ZeroOrNode f k (bitXor x y) → known (bitXor x y) ≡ true
     known-xor x y p q z = go (known-is x p) (known-is y q) z
       where
-        go : Known f k live x → Known f k live y → (bitXor x y ≡ 0) ⊎ (1 ≤ nodeOf f k (bitXor x y)) → known (bitXor x y) ≡ true
+        go : Known f k live x → Known f k live y → ZeroOrNode f k (bitXor x y) → known (bitXor x y) ≡ true
         go (nothing d) b z = rw d q
         go (of-node a na la ea) (nothing e) z = rw (e, xor-zero-r x) p
         go (of-node a na la ea) (of-node b nb lb eb) (inl e) = is-known (nothing e)

@@ -12,10 +12,11 @@ use Rattle.base.proofs.Tests.{is-false}
 use Rattle.families.specs.declared.Family.{Family}
 use Rattle.families.specs.declared.Family.the-variants.{Simplex, WeightTwo, Tetrahedron}
 use Rattle.families.specs.Families.{KInRange, IsNode, nodeCount}
+use Rattle.families.proofs.FullLaws.{simplex-full, tetrahedron-full}
 use Rattle.planning.specs.Pairs.{NoPairLeft}
 use Rattle.leftover.specs.Open.{Open, OpenCount}
 use Rattle.leftover.proofs.Cut.{Cut, cut-open}
-use Rattle.leftover.proofs.Full.{simplex-full, tetrahedron-full, full-cut}
+use Rattle.leftover.proofs.Full.{full-cut}
 use Rattle.leftover.proofs.Pairs.{pair-cut}
 use Rattle.leftover.proofs.Reached.{Ended, reached-shut}
 

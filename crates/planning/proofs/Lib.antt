@@ -5,7 +5,9 @@ pub mod Steps
 pub mod RoundLaws
 pub mod MakeLaws
 pub mod SourceLaws
+pub mod RepairedLaws
 pub mod PlanLaws
+pub mod WaveLaws
 pub mod PlannedLaws
 pub mod CarryLaws
 pub mod Proved

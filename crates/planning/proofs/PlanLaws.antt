@@ -22,35 +22,20 @@ use Rattle.planning.specs.Claims.{CanMakeAll}
 use Rattle.planning.specs.Pairs.{smallerNode, largerNode, NoPairLeft}
 use Rattle.planning.specs.Plan.{Step, isRepaired, stepOf, roundSteps, marksAfter, roundsFrom, nodesLeft}
 use Rattle.planning.proofs.MakeLaws.{length-marksAfter, can-make-append, round-makes, make-counts}
-use Rattle.planning.proofs.PairLaws.{hasLarger, pair-repairs}
+use Rattle.planning.proofs.RepairedLaws.{pair-repaired}
 use Rattle.planning.proofs.RoundLaws.{marks-append}
 
 -- ---- a round without steps
 
 module _ (f : Family) (k : ℕ) (marks : List Bool) where
-  -- a live pair gives a smaller node
-  smaller-hit : (j a b : ℕ) → IsNode f k a → IsNode f k b → a < b → isLive marks a ≡ true → isLive marks b ≡ true → areRelated f k a b j ≡ true → 1 ≤ smallerNode f k marks j
-  unfolding smallerNode largerNode
-  smaller-hit j a b na nb l va vb h =
-      let larger : 1 ≤ largerNode f k marks j a =
-      first-least (λ x. isLive marks x && areRelated f k a x j) (suc a) (nodeCount f k - a) b (omega arith) l (omega (arith, nb .last)) (and-both (isLive marks b) (areRelated f k a b j) vb h) .0 in
-      first-least (λ x. isLive marks x && hasLarger f k marks j x) 1 (nodeCount f k) a (omega arith) (na .first) (omega (arith, na .last))
-      (and-both (isLive marks a) (hasLarger f k marks j a) va (lt-ltb 0 (largerNode f k marks j a) larger)) .0
-
   -- a round without steps repairs no node
   none-repaired : (r : ℕ) → roundSteps f k marks r ≡ [] → thoseFrom (isRepaired f k marks) 1 (nodeCount f k) ≡ []
   none-repaired r e = map-eq-nil-iff (stepOf f k marks r) .0 e
 
   pub round-quiet : KInRange f k → (r : ℕ) → roundSteps f k marks r ≡ [] → NoPairLeft f k (isLive marks)
-  round-quiet range r e j a b nj na nb vj va vb h = go (decLt a b) (decLt b a)
-    where
-      hit : 1 ≤ smallerNode f k marks j → ⊥
-      hit l = not-both (isRepaired f k marks j) (pair-repairs f k marks j vj l) (none-those (isRepaired f k marks) 1 (nodeCount f k) (omega arith) (none-repaired r e) j (nj .first) (omega (arith, nj .last)))
-
-      go : Dec (a < b) → Dec (b < a) → ⊥
-      go (yes l) d = hit (smaller-hit j a b na nb l va vb h)
-      go (no n) (yes l) = hit (smaller-hit j b a nb na l vb va (related-swap f k a b j h))
-      go (no n) (no m) = related-differ f k range a b j nj h (omega arith)
+  round-quiet range r e j a b nj na nb vj va vb h =
+      not-both (isRepaired f k marks j) (pair-repaired f k range marks j nj vj (record { one = a; other = b; one-live = record { node = na; live = va }; other-live = record { node = nb; live = vb }; related = h }))
+      (none-those (isRepaired f k marks) 1 (nodeCount f k) (omega arith) (none-repaired r e) j (nj .first) (omega (arith, nj .last)))
 
 -- ---- one round after another
 

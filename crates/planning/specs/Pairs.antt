@@ -22,3 +22,8 @@ abbrev pub NoPairLeft : Family → ℕ → (ℕ → Bool) → Type 0
 NoPairLeft f k live =
     (j a b : ℕ) → IsNode f k j → IsNode f k a → IsNode f k b
     → live j ≡ false → live a ≡ true → live b ≡ true → areRelated f k a b j ≡ true → ⊥
+
+-- j is a node of 1 to n, and live
+pub record LiveNode (f : Family) (k : ℕ) (marks : List Bool) (j : ℕ) : Type 0 where
+  pub node : IsNode f k j
+  pub live : isLive marks j ≡ true

@@ -1,6 +1,7 @@
 -- The plan (document 01, "Plan"): rounds from 1, the steps of a round, and what a plan comes to.
+use mathlib.Core.Path.{_≡_}
 use mathlib.Core.Bool.{Bool, cond, not, _&&_, _||_}
-use mathlib.Core.List.{List, [], _∷_, _++_, map, flatMap, getLastD}
+use mathlib.Core.List.{List, List·Memᴰ, [], _∷_, _++_, map, flatMap, getLastD}
 use Prim.Native.Nat.{ℕ, zero, suc, _+_}
 use lib.Dec.{eqb, ltb}
 use lib.ListN.{length}
@@ -32,6 +33,13 @@ roundSteps f k marks r = map (stepOf f k marks r) (thoseFrom (isRepaired f k mar
 -- the nodes that steps repair
 abbrev pub repairedNodes : List Step → List ℕ
 repairedNodes steps = map (λ (step : Step). step .node) steps
+
+-- one of the steps repairs node j in round r
+pub record RepairedIn (j r : ℕ) (steps : List Step) : Type 0 where
+  pub step : Step
+  pub listed : List·Memᴰ step steps
+  pub node : step .node ≡ j
+  pub round : step .round ≡ r
 
 -- the nodes that steps read: the pair of each
 unfoldable pub sourcesOf : List Step → List ℕ

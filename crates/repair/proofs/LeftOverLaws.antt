@@ -8,6 +8,8 @@ use native.Mathlib.Decide.{ℕ-discrete}
 use native.Mathlib.Omega.{arith}
 use lib.ListN.{length, getD, set, length-set, replicate}
 use lib.Seq.{getD-set-same, getD-set-other}
+use Rattle.base.specs.Numbers.{Each}
+use Rattle.base.proofs.EachLaws.{each-append}
 use Rattle.families.specs.declared.Family.{Family}
 use Rattle.families.specs.Families.{KInRange, IsNode, nodeCount}
 use Rattle.families.proofs.Laws.{few}
@@ -26,18 +28,9 @@ use Rattle.leftover.proofs.Count.{one-count}
 
 -- ---- the marks of lists
 
--- of each number of a list
-abbrev Each : (ℕ → Type 0) → List ℕ → Type 0
-Each P list = (i : ℕ) → i < length list → P (getD list i 0)
-
 -- of each number that is marked live
 abbrev Marked : (ℕ → Type 0) → List Bool → Type 0
 Marked P marks = (j : ℕ) → isLive marks j ≡ true → P j
-
-each-append : (P : ℕ → Type 0) (a b : List ℕ) → Each P a → Each P b → Each P (a ++ b)
-each-append P [] b p q i h = q i h
-each-append P (x ∷ a) b p q zero h = p 0 (omega arith)
-each-append P (x ∷ a) b p q (suc i) h = each-append P a b (λ n l. p (suc n) (omega arith)) q i (omega arith)
 
 each-outside : (n : ℕ) (list : List ℕ) → Each (λ j. (1 ≤ j) × (j ≤ n)) list → someOutside n list ≡ false
 unfolding someOutside

@@ -1,0 +1,5 @@
+pub mod Sums
+pub mod Halves
+pub mod Full
+pub mod Edges
+pub mod Proved

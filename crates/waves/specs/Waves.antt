@@ -1,0 +1,52 @@
+-- Which round a node returns in (document 02, K9). The rounds of document 01, in which a live node may be read by any number of repairs,
+-- are called waves here (document 02, K11); proofs/Proved.antt has the proofs.
+use mathlib.Core.Path.{_≡_}
+use mathlib.Core.Bool.{Bool, false, cond}
+use mathlib.Core.List.{List}
+use mathlib.Core.Logic.{_↔_}
+use Prim.Native.Nat.{ℕ, _^_, _≤_, _<_}
+use lib.Dec.{leb}
+use lib.ListN.{length}
+use Rattle.base.specs.Numbers.{Each, xorOf}
+use Rattle.families.specs.declared.Family.{Family}
+use Rattle.families.specs.Families.{KInRange, IsNode, columnOf}
+use Rattle.lists.specs.Lists.{isLive}
+use Rattle.planning.specs.Pairs.{LiveNode}
+use Rattle.planning.specs.Plan.{Step, RepairedIn, planOf, marksAfter, lastRound}
+
+-- the waves from marks, as steps: the rounds of the plan are waves
+abbrev pub wavesOf : Family → ℕ → List Bool → List Step
+wavesOf f k marks = planOf f k marks
+
+-- c is the XOR of the columns of at most m live nodes
+pub record SumOf (f : Family) (k : ℕ) (marks : List Bool) (m c : ℕ) : Type 0 where
+  pub nodes : List ℕ
+  pub few : length nodes ≤ m
+  pub live : Each (LiveNode f k marks) nodes
+  pub sum : xorOf (columnOf f k) nodes ≡ c
+
+-- node j's column is the XOR of those of at most 2^r nodes live when wave 1 begins
+abbrev pub Reached : Family → ℕ → List Bool → ℕ → ℕ → Type 0
+Reached f k marks j r = SumOf f k marks (2 ^ r) (columnOf f k j)
+
+-- r is the least such number
+pub record LeastReached (f : Family) (k : ℕ) (marks : List Bool) (j r : ℕ) : Type 0 where
+  pub reached : Reached f k marks j r
+  pub not-before : (s : ℕ) → s < r → Reached f k marks j s → ⊥
+
+-- 1 for k = 2, 2 for 3 and 4, 3 for 5 to 8, 4 for 9 to 16, 5 for 17 to 22
+abbrev pub mostWaves : ℕ → ℕ
+mostWaves k = cond (leb k 2) 1 (cond (leb k 4) 2 (cond (leb k 8) 3 (cond (leb k 16) 4 5)))
+
+-- of the waves from marks
+pub record WaveClaims (f : Family) (k : ℕ) (marks : List Bool) : Type 0 where
+  -- the wave that repairs a missing node is the least r for which it is reached
+  pub in-its-wave : (j r : ℕ) → IsNode f k j → isLive marks j ≡ false → RepairedIn j r (wavesOf f k marks) ↔ LeastReached f k marks j r
+  -- a node that is left is reached for no r, and a node that is reached for none is left
+  pub left-out : (j : ℕ) → IsNode f k j → (isLive (marksAfter marks (wavesOf f k marks)) j ≡ false) ↔ ((r : ℕ) → Reached f k marks j r → ⊥)
+  -- there are at most so many waves
+  pub few-waves : lastRound (wavesOf f k marks) ≤ mostWaves k
+
+-- of every family, every k in its range and all marks
+abbrev pub WaveClaim : Type 0
+WaveClaim = (f : Family) (k : ℕ) → KInRange f k → (marks : List Bool) → length marks ≡ 256 → WaveClaims f k marks
