@@ -19,3 +19,4 @@ pub mod random;
 pub mod samples;
 pub mod tally;
 pub mod triples;
+pub mod waves;

@@ -1,9 +1,17 @@
-//! Sets of live nodes that a planner has work with: about k nodes, chains and trees, and parts of spans.
+//! Sets of live nodes that a planner has work with: about k nodes, chains and trees, parts of spans, and all or none but a few.
 use crate::open::Span;
-use crate::papers::columns_of;
+use crate::papers::{Code, columns_of};
 use crate::random::Random;
 use crate::samples::some_of;
 use std::collections::BTreeSet;
+
+/// Codes with so few nodes that every set is compared.
+pub fn is_small(code: &Code) -> bool {
+    code.n() <= 14
+}
+
+/// How many sets these have: simplex 2 and 3, weight-two 2 to 4, the tetrahedron.
+pub const SETS_OF_SMALL: usize = 8 + 128 + 8 + 64 + 1024 + 16_384;
 
 /// The sets of a code.
 #[derive(Clone, Copy, Debug)]
@@ -86,6 +94,17 @@ impl LiveSets {
         let span = Span::of(base.iter().map(|&node| columns[usize::from(node) - 1]));
         let within = |node: &u8| span.contains(columns[usize::from(*node) - 1]);
         self.all().into_iter().filter(within).collect()
+    }
+
+    /// All nodes but a few, from one to k.
+    pub fn few_lost(self, random: &mut Random) -> Vec<u8> {
+        let lost = 1 + random.below(self.k);
+        choose(self.columns().len() - lost, self.all(), random)
+    }
+
+    /// Fewer than k nodes, so that some are open.
+    pub fn many_lost(self, random: &mut Random) -> Vec<u8> {
+        choose(random.below(self.k), self.all(), random)
     }
 
     /// Any share of the nodes, from none to all.

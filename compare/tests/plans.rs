@@ -2,9 +2,9 @@
 //! papers' model and against the open nodes by elimination.
 use compare::boxes::{block_at, live_nodes, missing_nodes};
 use compare::guarded::Guarded;
-use compare::live_sets::LiveSets;
+use compare::live_sets::{LiveSets, SETS_OF_SMALL, is_small};
 use compare::open::{open_by_differences, open_nodes};
-use compare::papers::{Code, every_code};
+use compare::papers::every_code;
 use compare::random::Random;
 use compare::samples::{Shape, nodes_in};
 use compare::{calls, library};
@@ -129,11 +129,6 @@ fn copy_blocks(list: &[u8], len: usize, from: &[u8], to: &mut [u8]) {
     }
 }
 
-/// Codes with so few nodes that every set is compared.
-fn is_small(code: &Code) -> bool {
-    code.n() <= 14
-}
-
 #[test]
 fn every_set_of_the_small_codes_is_planned_and_run() {
     let mut random = Random::seeded();
@@ -144,8 +139,7 @@ fn every_set_of_the_small_codes_is_planned_and_run() {
             compare_set(code.family, code.k, &live, &mut random, &mut seen);
         }
     }
-    // simplex 2 and 3, weight-two 2 to 4, the tetrahedron
-    assert_eq!(seen.sets, 8 + 128 + 8 + 64 + 1024 + 16_384);
+    assert_eq!(seen.sets, SETS_OF_SMALL);
     seen.report("the small codes", 2);
 }
 
