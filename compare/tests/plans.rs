@@ -7,6 +7,7 @@ use compare::open::{open_by_differences, open_nodes};
 use compare::papers::every_code;
 use compare::random::Random;
 use compare::samples::{Shape, nodes_in};
+use compare::waves::most_waves;
 use compare::{calls, library};
 use mogtriz::raw::{self, Repairs, Session};
 
@@ -58,6 +59,7 @@ fn compare_set(family: usize, k: usize, live: &[u8], random: &mut Random, seen: 
     assert_eq!(started.refusal, 0, "{shape:?} {live:?}");
     let open = open_nodes(family, k, live);
     let plan = compare_plan(started.session, random, seen);
+    assert!(plan.rounds <= most_waves(k), "{shape:?} {live:?}");
     let mut nodes = random.bytes(shape.nodes_len());
     let run = calls::run(started.session, &mut nodes);
     compare_counts(&plan, &run, &open);
@@ -140,7 +142,8 @@ fn every_set_of_the_small_codes_is_planned_and_run() {
         }
     }
     assert_eq!(seen.sets, SETS_OF_SMALL);
-    seen.report("the small codes", 2);
+    // k is at most 4
+    seen.report("the small codes", most_waves(4));
 }
 
 /// A way to choose a set.
@@ -177,8 +180,8 @@ fn sets_of_the_other_codes_are_planned_and_run() {
     }
     assert!(seen.sets >= 20_000, "{} sets", seen.sets);
     assert!(2 * seen.about_k >= seen.sets, "{} of about k", seen.about_k);
-    // a chain of 22 doubles its reach with each round
-    seen.report("the other codes", 5);
+    // k is at most 22
+    seen.report("the other codes", most_waves(22));
 }
 
 #[test]
