@@ -9,6 +9,7 @@ use native.Mathlib.Omega.{arith}
 use lib.ListN.{length, take, drop, length-map}
 use lib.Seq.{take-append-seam}
 use Rattle.boxes.specs.Box.{namesIn}
+use Rattle.waves.specs.Waves.{mostWaves}
 use Rattle.repair.specs.declared.Session.{Session}
 use Rattle.repair.specs.Session.{Arrays}
 use Rattle.repair.specs.Refusals.{NotThirteen}
@@ -16,7 +17,7 @@ use Rattle.repair.specs.declared.Written.{Written}
 use Rattle.repair.specs.declared.ReadOut.{ReadOut}
 use Rattle.repair.specs.Boxed.{readBox, nodesRead, written, outWritten}
 use Rattle.repair.specs.ReadOut.{readOut, objectOut}
-use Rattle.repair.specs.Repairs.{ran, nodesRan}
+use Rattle.repair.specs.Repairs.{planned, ran, nodesRan}
 use Rattle.repair.specs.Calls.{Move, State, called, stateAfter}
 use Rattle.repair.specs.LeftOver.{lastSession}
 use Rattle.repair.specs.RepairClaims.{LiveAreOwn, OwnClaims}
@@ -24,17 +25,17 @@ use Rattle.repair.specs.WholeWay.{OutWhereOpen, Way, startOf, nodesEncoded, box
 use Rattle.repair.proofs.Proved.{write-read-claim}
 use Rattle.repair.proofs.LeftOverProved.{demand-3}
 use Rattle.repair.proofs.ReadsProved.{counted-claim}
-use Rattle.repair.proofs.RepairsProved.{own-claim}
+use Rattle.repair.proofs.RepairsProved.{rounds-claim, own-claim}
 use Rattle.repair.proofs.WholeWayProved.{whole-way-claim}
 use Rattle.mogtriz.specs.declared.sessions.MarkedSession.{MarkedSession}
 use Rattle.mogtriz.specs.declared.sessions.WriteAnswer.{WriteAnswer}
 use Rattle.mogtriz.specs.declared.sessions.ReadOutAnswer.{ReadOutAnswer}
 use Rattle.mogtriz.specs.declared.repairs.RepairsAnswer.{RepairsAnswer}
 use Rattle.mogtriz.specs.Sessions.{markOf, someAbove1, sessionForC, sessionOfC, readOutC}
-use Rattle.mogtriz.specs.Repairs.{ranC}
-use Rattle.mogtriz.specs.Claims.{Demand3C, NotThirteenC, CountedCClaim, OwnC, OwnCClaim, boxAwayC, stateAtC, OnTheWayC, OutWhereOpenC, WholeWayCClaim}
+use Rattle.mogtriz.specs.Repairs.{plannedC, ranC}
+use Rattle.mogtriz.specs.Claims.{Demand3C, NotThirteenC, CountedCClaim, RoundsC, RoundsCClaim, OwnC, OwnCClaim, boxAwayC, stateAtC, OnTheWayC, OutWhereOpenC, WholeWayCClaim}
 use Rattle.mogtriz.proofs.MarkLaws.{byte-at}
-use Rattle.mogtriz.proofs.Proved.{of-low, there-and-back, back-and-there, thirteen-c-claim, agree-claim}
+use Rattle.mogtriz.proofs.Proved.{of-low, there-and-back, back-and-there, turned-away-claim, thirteen-c-claim, agree-claim}
 use Rattle.mogtriz.proofs.AnswerLaws.{read-out-kept}
 use Rattle.mogtriz.proofs.CallLaws.{last-agrees, state-agrees, state-stays}
 
@@ -77,6 +78,30 @@ counted-c-claim family k L list e calls =
       none = rw is (own .none);
       not-13 = rw is (agree-not-13 last (own .not-13));
     }
+
+-- a session that is turned away has no rounds
+no-rounds : (s : MarkedSession) → someAbove1 (s .live) ≡ true → RoundsC s
+no-rounds s e =
+    let t = thirteen-c-claim s (inl e) in
+    let none : 0 ≤ mostWaves (s .k) = omega arith in
+    record {
+      plan = λ out. rw (turned-away-claim s .plan out (λ z. omega (arith, z, t .plan out)) .0) none;
+      run = λ nodes. rw (turned-away-claim s .run nodes (λ z. omega (arith, z, t .run nodes)) .0) none;
+    }
+
+pub rounds-c-claim : RoundsCClaim
+unfolding plannedC ranC
+rounds-c-claim s marks = go (someAbove1 (s .live)) refl
+  where
+    go : (above : Bool) → someAbove1 (s .live) ≡ above → RoundsC s
+    go true e = no-rounds s e
+    go false e =
+        let own = rounds-claim (sessionOfC s) (rw (of-low s e) (length-map (s .live) markOf ∙ marks)) in
+        let k : sessionOfC s .k ≡ s .k = rw (of-low s e) in
+        record {
+          plan = λ out. subst (λ (x : ℕ). planned (sessionOfC s) out .rounds ≤ mostWaves x) k (own .plan out);
+          run = λ nodes. subst (λ (x : ℕ). ran (sessionOfC s) nodes .rounds ≤ mostWaves x) k (own .run nodes);
+        }
 
 -- what is claimed of a session holds of its C form
 pub own-agrees : (object : List ℕ) (s : Session) (nodes : List ℕ) (moves : List Move) → OwnClaims object s nodes moves → OwnC object (sessionForC s) nodes moves

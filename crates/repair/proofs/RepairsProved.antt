@@ -1,26 +1,32 @@
 -- The claims of specs/RepairClaims.antt.
 -- Assumes nothing.
-use mathlib.Core.Path.{_≡_, sym, ap, _∙_, subst}
+use mathlib.Core.Path.{_≡_, refl, sym, ap, _∙_, subst}
+use mathlib.Core.Bool.{Bool, true, false}
 use mathlib.Core.List.{List}
-use Prim.Native.Nat.{ℕ, _*_}
+use Prim.Native.Nat.{ℕ, _*_, _≤_}
+use native.Mathlib.Omega.{arith}
 use lib.ListN.{length, drop}
 use Rattle.families.specs.Families.{familyOf}
 use Rattle.checks.specs.Checks.{firstMet}
+use Rattle.checks.proofs.AnswerLaws.{answer-either}
 use Rattle.lists.specs.Lists.{isLive}
 use Rattle.lists.proofs.Laws.{length-setLive}
 use Rattle.planning.specs.Pairs.{NoPairLeft}
-use Rattle.planning.specs.Plan.{Step, repairedNodes, marksAfter, nodesLeft}
+use Rattle.planning.specs.Plan.{Step, repairedNodes, marksAfter, lastRound, nodesLeft}
 use Rattle.planning.proofs.CarryLaws.{steps-back}
 use Rattle.planning.proofs.Proved.{plan-claim}
+use Rattle.waves.specs.Waves.{mostWaves}
+use Rattle.waves.proofs.Proved.{wave-claim}
 use Rattle.repair.specs.declared.Session.{Session}
-use Rattle.repair.specs.Session.{afresh, Arrays, nodeCountOf, nodesChecks}
+use Rattle.repair.specs.declared.Repairs.{Repairs}
+use Rattle.repair.specs.Session.{afresh, Arrays, nodeCountOf, unsound, nodesChecks}
 use Rattle.repair.specs.Step.{afterSteps, namedStep, stepped}
-use Rattle.repair.specs.Repairs.{planIn, planned, outPlanned, ran}
+use Rattle.repair.specs.Repairs.{planIn, repairsOf, refusedRepairs, planChecks, planned, outPlanned, ran}
 use Rattle.repair.specs.Calls.{step, run, called, stateAfter}
 use Rattle.repair.specs.WholeWay.{SameCode}
-use Rattle.repair.specs.RepairClaims.{StepClaim, StaysClaim, LiveStaysClaim, PlanWritesClaim, RunClaims, RunClaim, OwnClaim}
+use Rattle.repair.specs.RepairClaims.{StepClaim, StaysClaim, LiveStaysClaim, PlanWritesClaim, RoundsClaims, RoundsClaim, RunClaims, RunClaim, OwnClaim}
 use Rattle.repair.proofs.Accepted.{read-out-accepted, step-passed, plan-accepted, run-accepted}
-use Rattle.repair.proofs.StartLaws.{nodes-0}
+use Rattle.repair.proofs.StartLaws.{known, nodes-0}
 use Rattle.repair.proofs.StepLaws.{accepted-step, step-accepted}
 use Rattle.repair.proofs.CallLaws.{ran-left}
 use Rattle.repair.proofs.OwnLaws.{stays-stepped, stays-ran, stepped-keeps, ran-keeps, run-known, session-ran, run-steps, run-keeps-left, run-keeps-live, quiet-answer, quiet-nodes, OwnState, own-moves, own-out}
@@ -46,6 +52,26 @@ live-stays s nodes run i l = ran-keeps s nodes i l
 pub plan-writes : PlanWritesClaim
 unfolding planned outPlanned
 plan-writes s out h = let e = plan-accepted s out h in rw e (steps-back (planIn s) (drop (4 * length (planIn s)) out))
+
+module _ (s : Session) (marks : length (s .live) ≡ 256) where
+  few-rounds : unsound s ≡ false → lastRound (planIn s) ≤ mostWaves (s .k)
+  few-rounds sound = wave-claim (familyOf (s .family)) (s .k) (known s sound .range .blocks) (s .live) marks .few-waves
+
+  rounds-claims : (sound : Bool) → unsound s ≡ sound → RoundsClaims s
+  unfolding planned ran planChecks nodesChecks firstMet
+  rounds-claims true e =
+      let none : 0 ≤ mostWaves (s .k) = omega arith in
+      record { waves = refl; plan = λ out. rw e none; run = λ nodes. rw e none }
+  rounds-claims false e =
+      record {
+        waves = refl;
+        plan = λ out. answer-either (planChecks s out) (repairsOf s s) (refusedRepairs s) (λ (r : Repairs). r .rounds ≤ mostWaves (s .k)) (few-rounds e) (λ n. omega arith);
+        run = λ nodes.
+            answer-either (nodesChecks s (length nodes)) (repairsOf s (afterSteps s (planIn s))) (refusedRepairs s) (λ (r : Repairs). r .rounds ≤ mostWaves (s .k)) (few-rounds e) (λ n. omega arith);
+      }
+
+pub rounds-claim : RoundsClaim
+rounds-claim s marks = rounds-claims s marks (unsound s) refl
 
 module _ (s : Session) (arrays : Arrays s) (nodes : List ℕ) (h : ran s nodes .refusal ≡ 0) where
   abbrev passed : firstMet (nodesChecks s (length nodes)) ≡ 0

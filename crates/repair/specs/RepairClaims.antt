@@ -14,6 +14,7 @@ use Rattle.planning.specs.Claims.{CanMake}
 use Rattle.planning.specs.Pairs.{NoPairLeft}
 use Rattle.planning.specs.Plan.{Step}
 use Rattle.planning.specs.Made.{stepsIn}
+use Rattle.waves.specs.Waves.{wavesOf, mostWaves}
 use Rattle.repair.specs.declared.Session.{Session}
 use Rattle.repair.specs.Session.{afresh, Arrays, nodeCountOf, unsound}
 use Rattle.repair.specs.Boxed.{writtenLength, written}
@@ -76,6 +77,15 @@ LiveStaysClaim = (s : Session) (nodes : List ℕ) (move : Move) (j : ℕ) → is
 -- what an accepted plan writes, read four bytes a step, is the session's plan
 abbrev pub PlanWritesClaim : Type 0
 PlanWritesClaim = (s : Session) (out : List ℕ) → planned s out .refusal ≡ 0 → stepsIn (outPlanned s out) (planned s out .steps) ≡ planIn s
+
+-- the rounds of a session's plan are waves, and so there are few of them in what plan and run give, refused or not
+pub record RoundsClaims (s : Session) : Type 0 where
+  pub waves : planIn s ≡ wavesOf (familyOf (s .family)) (s .k) (s .live)
+  pub plan : (out : List ℕ) → planned s out .rounds ≤ mostWaves (s .k)
+  pub run : (nodes : List ℕ) → ran s nodes .rounds ≤ mostWaves (s .k)
+
+abbrev pub RoundsClaim : Type 0
+RoundsClaim = (s : Session) → length (s .live) ≡ 256 → RoundsClaims s
 
 -- a run after a run repairs nothing: the same nodes left, session and buffer
 pub record RunAgain (s : Session) (nodes : List ℕ) (next : Session) (other : List ℕ) : Type 0 where
