@@ -3,11 +3,11 @@
 use mathlib.Core.Path.{_≡_, refl, sym, ap, _∙_, subst}
 use mathlib.Core.Bool.{true, false}
 use mathlib.Core.List.{List, [], _∷_, _++_, append-nil, flatMap, getLastD, zipWith}
-use Prim.Native.Nat.{ℕ, suc, _+_, _-_, _*_, _/_, _≤_}
+use Prim.Native.Nat.{ℕ, suc, _+_, _-_, _*_, _/_, _≤_, _<_}
 use native.Mathlib.Omega.{arith}
 use borrow.Author.Tests.{le-ltb, ltb-true, eqb-false}
 use lib.Dec.{ltb, eqb}
-use lib.ListN.{length, getD, drop}
+use lib.ListN.{length, getD, drop, replicate, getD-replicate}
 use lib.Seq.{ext-getD}
 use Rattle.base.specs.Ranges.{firstFrom, thoseFrom, listFrom}
 use Rattle.families.specs.Families.{familyOf, nodeCount, columnOf, nodeOf, pairAt, areRelated}
@@ -26,6 +26,7 @@ use Rattle.planning.specs.Plan.{isRepaired, roundsFrom, planOf, sourcesOf, mark
 use Rattle.planning.specs.Made.{stepsIn}
 use Rattle.planning.proofs.RoundLaws.{length-bytes}
 use Rattle.planning.proofs.CarryLaws.{steps-back}
+use Rattle.waves.specs.Waves.{mostWaves}
 use Rattle.boxes.specs.Box.{blockLengthIn, nodeCountIn, boxChecks, bodyChecks, bodyOf}
 use Rattle.boxes.specs.Bodies.{boxOf, withBodies}
 use Rattle.graded.specs.Order.{gradedTable, below}
@@ -43,7 +44,7 @@ use Rattle.repair.proofs.RefusalsProved.{thirteen-claim, not-thirteen-claim}
 use Rattle.repair.proofs.ReadsProved.{not-reached-claim}
 use Rattle.listing.specs.Text.{decimal, field, firstLine, stepLine, lastLine, refusalLine}
 use Rattle.listing.specs.Listing.{answerOf, listingIn, listingOf}
-use Rattle.examples.specs.Examples.{Row, Encodes, Interleaves, InterleaveGives, Plans, Starts, BoxGives, BoxReads, BoxHolds, BoxLacks, BoxSteps, BoxWrites, BoxNames, Converts, ConvertGives, Lists, IsSound, TurnedAway, ServedAnyway, sessionBy, allBut, HasPlan, Holds, Every, table, Examples}
+use Rattle.examples.specs.Examples.{Row, Encodes, Interleaves, InterleaveGives, Plans, MostRounds, Starts, BoxGives, BoxReads, BoxHolds, BoxLacks, BoxSteps, BoxWrites, BoxNames, Converts, ConvertGives, Lists, IsSound, TurnedAway, ServedAnyway, sessionBy, allBut, HasPlan, Holds, Every, table, Examples}
 
 -- ---- a plan
 
@@ -115,6 +116,7 @@ Computed (Interleaves family k L object other) =
 Computed (InterleaveGives family k L size room number) = (firstMet (interleaveChecks family k L size room) ≡ number) × (eqb number 0 ≡ false)
 Computed (Plans family k list steps rounds left reads) =
     (firstMet (startChecks family k 1 list) ≡ 0) × (unsound (sessionOf family k 1 list) ≡ false) × HasFigures (sessionOf family k 1 list) steps rounds left reads
+Computed (MostRounds least most rounds) = listFrom (λ i. mostWaves (least + i)) 0 (suc most - least) ≡ replicate (suc most - least) rounds
 Computed (Starts family k L list number) = Holds (Starts family k L list number)
 Computed (BoxGives bytes number) = Holds (BoxGives bytes number)
 Computed (BoxReads box s after) =
@@ -157,6 +159,11 @@ holds (InterleaveGives family k L size room number) (is, some) = λ bytes out e 
 holds (Plans family k list steps rounds left reads) (a, start, figures) = λ L h g.
     let same = same-checks family k L h g in
     (rw (same, a), has-plan (sessionOf family k L list) steps rounds left reads (rw same start) figures)
+holds (MostRounds least most rounds) c = λ k h g.
+    let e : k ≡ least + (k - least) = omega arith in
+    let l : k - least < suc most - least = omega arith in
+    ap mostWaves e ∙ sym (getD-listFrom (λ i. mostWaves (least + i)) (suc most - least) (k - least) 0 l)
+    ∙ ap (λ (list : List ℕ). getD list (k - least) 0) c ∙ getD-replicate (suc most - least) (k - least) rounds 0 l
 holds (Starts family k L list number) c = c
 holds (BoxGives bytes number) c = c
 holds (BoxReads box s after) (a, c) = (a, each _ _ c)
@@ -204,6 +211,8 @@ computed =
     & (λ byte. (refl, refl))
     & (λ byte. (refl, refl))
     & (refl, refl, (refl, refl, refl, refl, refl, refl))
+    & (refl, refl, (refl, refl, refl, refl, refl, refl))
+    & refl & refl & refl & refl & refl
     & (refl, refl, (refl, refl, refl, refl, refl, refl))
     & (refl, refl, refl)
     & (refl, refl)
