@@ -2,24 +2,20 @@
 -- round leaves fewer nodes missing.
 -- Assumes nothing.
 use mathlib.Core.Path.{_≡_, refl, sym, ap, _∙_}
-use mathlib.Core.Bool.{Bool, true, _&&_}
+use mathlib.Core.Bool.{Bool}
 use mathlib.Core.List.{List, [], _∷_, _++_, map-eq-nil-iff}
 use mathlib.Core.Logic.{_⊎_, inl, inr}
-use Prim.Native.Nat.{ℕ, zero, suc, _+_, _-_, _≤_, _<_}
-use native.Mathlib.Decide.{decLt}
+use Prim.Native.Nat.{ℕ, zero, suc, _+_, _-_, _≤_}
 use native.Mathlib.Omega.{arith}
-use borrow.Author.Tests.{lt-ltb}
 use lib.ListN.{length}
 use Rattle.base.specs.Ranges.{thoseFrom}
 use Rattle.base.proofs.RangeLaws.{none-those}
-use Rattle.base.proofs.Tests.{and-both, not-both}
+use Rattle.base.proofs.Tests.{not-both}
 use Rattle.families.specs.declared.Family.{Family}
-use Rattle.families.specs.Families.{KInRange, IsNode, nodeCount, areRelated}
-use Rattle.base.proofs.First.{first-least}
-use Rattle.families.proofs.Laws.{related-differ, related-swap}
+use Rattle.families.specs.Families.{KInRange, nodeCount}
 use Rattle.lists.specs.Lists.{isLive, setLive}
 use Rattle.planning.specs.Claims.{CanMakeAll}
-use Rattle.planning.specs.Pairs.{smallerNode, largerNode, NoPairLeft}
+use Rattle.planning.specs.Pairs.{NoPairLeft}
 use Rattle.planning.specs.Plan.{Step, isRepaired, stepOf, roundSteps, marksAfter, roundsFrom, nodesLeft}
 use Rattle.planning.proofs.MakeLaws.{length-marksAfter, can-make-append, round-makes, make-counts}
 use Rattle.planning.proofs.RepairedLaws.{pair-repaired}

@@ -3,7 +3,7 @@
 -- Assumes nothing.
 use mathlib.Core.Path.{_≡_, refl, sym, ap, _∙_}
 use mathlib.Core.Bool.{Bool, true, false}
-use mathlib.Core.List.{List, List·Memᴰ, List·Memᴰ·not-nil, List·Memᴰ·append-cases, Memᴰ·append-left, Memᴰ·append-right, Memᴰ·cast, Memᴰ·map, Memᴰ·of-map, [], _∷_, map-map, map-id}
+use mathlib.Core.List.{List, List·Memᴰ, List·Memᴰ·not-nil, List·Memᴰ·append-cases, Memᴰ·append-left, Memᴰ·append-right, Memᴰ·cast, Memᴰ·map, Memᴰ·of-map, map-map, map-id}
 use mathlib.Core.Logic.{_⊎_, inl, inr}
 use Prim.Native.Nat.{ℕ, zero, suc, _+_, _≤_, _<_}
 use native.Mathlib.Nat.{add-zero}
@@ -18,7 +18,7 @@ use Rattle.families.proofs.Laws.{few}
 use Rattle.lists.specs.Lists.{isLive, setLive}
 use Rattle.lists.proofs.Laws.{length-setLive}
 use Rattle.lists.proofs.MarkLaws.{live-keeps, live-listed, listed-live}
-use Rattle.planning.specs.Plan.{Step, RepairedIn, isRepaired, stepOf, roundSteps, repairedNodes, marksAfter, roundsFrom}
+use Rattle.planning.specs.Plan.{Step, RepairedIn, isRepaired, stepOf, roundSteps, marksAfter, roundsFrom}
 use Rattle.planning.proofs.MakeLaws.{repaired-missing}
 use Rattle.planning.proofs.RepairedLaws.{LivePair, repaired-pair, pair-repaired}
 use Rattle.planning.proofs.RoundLaws.{marks-append}

@@ -17,7 +17,6 @@ use Rattle.families.specs.declared.Family.{Family}
 use Rattle.families.specs.Families.{KInRange, IsNode, columnOf, nodeOf, areRelated}
 use Rattle.families.proofs.Laws.{ZeroOrNode, column, column-once, node-of}
 use Rattle.lists.specs.Lists.{isLive}
-use Rattle.planning.proofs.RepairedLaws.{LivePair}
 use Rattle.planning.proofs.WaveLaws.{marksIn, in-keeps, in-only, in-gets}
 use Rattle.waves.specs.Waves.{SumOf, Reached}
 use Rattle.waves.proofs.Sums.{Parts, OneAtMost, nothing, of-node, sum-more, sum-is, sum-one, one-is, sum-join}
