@@ -112,8 +112,9 @@ pub wave-claim : WaveClaim
 wave-claim f k range marks size =
     record {
       in-its-wave = λ j r n e. ((λ s. step-least f k range marks size j r s), (λ w. least-step f k range marks size j r n e w));
-      left-out = λ j n.
-          ((λ e r s. not-both (isLive (marksAfter marks (wavesOf f k marks)) j) (in-the-end f k range marks size r j (down f k range marks size r j n s)) e),
-          (λ none. is-false (isLive (marksAfter marks (wavesOf f k marks)) j) (λ h. none (nodeCount f k + 0) (up f k range marks size (nodeCount f k + 0) j n (last-wave f k range marks size j h)))));
+      left-out = λ j n. (
+        (λ e r s. not-both (isLive (marksAfter marks (wavesOf f k marks)) j) (in-the-end f k range marks size r j (down f k range marks size r j n s)) e),
+        (λ none. is-false (isLive (marksAfter marks (wavesOf f k marks)) j) (λ h. none (nodeCount f k + 0) (up f k range marks size (nodeCount f k + 0) j n (last-wave f k range marks size j h)))),
+      );
       few-waves = last-within (mostWaves k) (wavesOf f k marks) (λ j r s. bounded f k range marks size j r s);
     }
