@@ -14,7 +14,7 @@ use crate::{Plan, Refusal, Session, raw};
 pub struct Repairs {
     /// How many nodes are repaired.
     pub steps: usize,
-    /// In how many rounds.
+    /// In how many rounds: at most 1 for k = 2, 2 for 3 and 4, 3 for 5 to 8, 4 for 9 to 16, 5 for 17 to 22.
     pub rounds: usize,
     /// How many nodes are missing once all steps are made: those at which two objects alike on all live nodes can
     /// differ. They are no refusal. After a run [`missing_nodes`](Session::missing_nodes) says which they are.
@@ -60,7 +60,8 @@ impl Session {
     }
 
     /// The repairs to make, in rounds from 1. In a round every missing node with a related pair, both live when the
-    /// round began, is repaired from the pair whose smaller number is least; it serves from the next round on.
+    /// round began, is repaired from the pair whose smaller number is least; it serves from the next round on. That is the
+    /// least round r for which its column is the XOR of the columns of at most 2^r nodes that are live when round 1 begins.
     ///
     /// It takes a destination, for which [`PLAN_ROOM`](crate::PLAN_ROOM) bytes are always enough: each step is written to
     /// it as four bytes, and what lies beyond the steps is not written. It gives the [`Plan`] in it. Where nodes are left

@@ -26,6 +26,7 @@ use Rattle.repair.specs.declared.Session.{Session}
 use Rattle.repair.specs.declared.Repairs.{Repairs}
 use Rattle.repair.specs.Session.{nodeCountOf, unsound, nodesChecks}
 use Rattle.repair.specs.Step.{afterSteps}
+use Rattle.repair.specs.Inner.{answerOfPlan}
 use Rattle.repair.specs.Repairs.{planIn, repairsOf, refusedRepairs, planChecks, planned, outPlanned, ran, nodesRan}
 
 -- a plan has at most a step for each node
@@ -78,7 +79,7 @@ module _ (s : Session) (made : Planned) (is : made ≡ plannedOf (familyOf (s .f
   pub made-steps : made .steps ≡ length (planIn s)
   made-steps = ap (λ (p : Planned). p .steps) is
 
-  pub made-answer : (next : Session) → record { refusal = 0; steps = made .steps; rounds = made .rounds; left = made .left; session = next } ≡ repairsOf s next
+  pub made-answer : (next : Session) → answerOfPlan made next ≡ repairsOf s next
   made-answer next = rw is
 
   pub made-few : KInRange (familyOf (s .family)) (s .k) → length (s .live) ≡ 256 → made .steps ≤ 255
@@ -95,7 +96,7 @@ module _ (s : Session) (made : Planned) (is : made ≡ plannedOf (familyOf (s .f
 
     -- what comes to it, with the session that a run hands back
     pub made-ran : (reads : List ℕ) → reads ≡ countAll (s .reads) (sourcesOf (stepsIn bytes (made .steps)))
-        → record { refusal = 0; steps = made .steps; rounds = made .rounds; left = made .left; session = record { family = s .family; k = s .k; len = s .len; steps = s .steps + made .steps; live = made .live; reads = reads } }
+        → answerOfPlan made (record { family = s .family; k = s .k; len = s .len; steps = s .steps + made .steps; live = made .live; reads = reads })
         ≡ repairsOf s (afterSteps s (planIn s))
     made-ran reads e = rw (e, made-back, is)
 

@@ -4,6 +4,7 @@ pub mod Boxed
 pub mod LiveNodes
 pub mod Step
 pub mod Repairs
+pub mod Inner
 pub mod Calls
 pub mod LeftOver
 pub mod Claims

@@ -12,11 +12,12 @@ ghost use Rattle.families.specs.Families.{familyOf};
 ghost use Rattle.planning.specs.Plan.{stepBytes};
 ghost use Rattle.planning.specs.Inner.{plannedOf};
 ghost use Rattle.repair.specs.Session.{unsound};
+ghost use Rattle.repair.specs.Inner.{answerOfPlan};
 ghost use Rattle.repair.specs.Repairs.{planIn, refusedRepairs, planned, outPlanned, ran, nodesRan};
 
 // An accepted plan or run: what the plan comes to, with the session that is handed back.
 fn counted(made: Planned, session: Session) -> Repairs
-    ensures { λ r. ⌜ r ≡ record { refusal = 0; steps = made .steps; rounds = made .rounds; left = made .left; session = session } ⌝ }
+    ensures { λ r. ⌜ r ≡ answerOfPlan made session ⌝ }
 {
     Repairs {
         refusal: 0,
