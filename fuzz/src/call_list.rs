@@ -9,7 +9,8 @@ use compare::calls;
 use compare::open::open_nodes;
 use compare::papers::MOST_LENGTH;
 use compare::planner::{pairs, plan_of};
-use mogtriz::raw::{MARKS, Session};
+use compare::waves::{most_waves, waves};
+use mogtriz::raw::{MARKS, Repairs, Session};
 
 struct List {
     session: Session,
@@ -146,6 +147,7 @@ impl List {
         let plan = calls::plan(self.session, 4 * 255);
         if count(Plan, plan.refusal) == 0 {
             self.compare_left(plan.left);
+            self.compare_rounds(&plan);
             let room = input.length_near(4 * plan.steps);
             count(Plan, calls::plan(self.session, room).refusal);
         }
@@ -156,6 +158,22 @@ impl List {
         if let Some(open) = &self.open {
             assert_eq!(left, open.len(), "{:?}", self.session);
         }
+    }
+
+    /// There are no more rounds than K9 allows. Up to k 8, where few numbers have k digits, each node returns in its wave.
+    fn compare_rounds(&self, plan: &Repairs) {
+        let Session { family, k, .. } = self.session;
+        assert!(plan.rounds <= most_waves(k), "{:?}", self.session);
+        if k > 8 {
+            return;
+        }
+        let waves = waves(family, k, &live_nodes(&self.session));
+        for [round, node, ..] in plan_of(&self.session).steps {
+            let wave = waves[usize::from(node) - 1];
+            assert_eq!(wave, Some(round.into()), "{:?}", self.session);
+        }
+        let left = waves.iter().filter(|wave| wave.is_none()).count();
+        assert_eq!(left, plan.left, "{:?}", self.session);
     }
 
     fn write(&mut self, input: &mut Input) {
