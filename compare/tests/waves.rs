@@ -205,7 +205,7 @@ fn nodes_of_the_other_codes_return_in_their_waves() {
     let mut seen = Seen::default();
     other_sets(|code, live| compare_set(code, &live, &mut seen));
     seen.report("the other codes", 23, most_waves(22));
-    assert!(seen.sets >= 2000, "{} sets", seen.sets);
+    assert_eq!(seen.sets, 23 * CHOICES.len() * TIMES);
     assert!(seen.left > 0);
 }
 

@@ -41,7 +41,7 @@ xor-assoc =
 pub xor-cancel : (a b : ℕ) → bitXor a (bitXor a b) ≡ b
 xor-cancel a b = sym (xor-assoc a a b) ∙ ap (λ (x : ℕ). bitXor x b) (xor-self a)
 
--- what is XORed with the same number to the same is the same
+-- numbers that give the same XOR with a are equal
 pub xor-same : (a b c : ℕ) → bitXor a b ≡ bitXor a c → b ≡ c
 xor-same a b c h = sym (xor-cancel a b) ∙ ap (bitXor a) h ∙ xor-cancel a c
 

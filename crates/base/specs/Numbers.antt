@@ -4,7 +4,7 @@ use Prim.Native.Nat.{ℕ, _<_}
 use lib.Bits.{bitXor}
 use lib.ListN.{length, getD}
 
--- of each number of a list
+-- P holds of each number of a list
 abbrev pub Each : (ℕ → Type 0) → List ℕ → Type 0
 Each P list = (i : ℕ) → i < length list → P (getD list i 0)
 

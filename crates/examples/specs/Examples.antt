@@ -40,8 +40,8 @@ pub data Row : Type 0 where
   -- family, k and the live nodes; at every L, the plan's steps, four numbers each, its rounds, the nodes left, and how often a run reads
   -- each number, from 0
   Plans : ℕ → ℕ → List ℕ → List ℕ → ℕ → List ℕ → List ℕ → Row
-  -- two k; from the one to the other, the most rounds of a plan
-  MostRounds : ℕ → ℕ → ℕ → Row
+  -- two k; from the one to the other, the most waves
+  MostWaves : ℕ → ℕ → ℕ → Row
   -- family, k, L and a node list; the number that the start gives
   Starts : ℕ → ℕ → ℕ → List ℕ → ℕ → Row
   -- bytes, and the number that checking them as a box gives
@@ -115,7 +115,7 @@ Holds (InterleaveGives family k L size room number) =
 Holds (Plans family k list steps rounds left reads) =
     (L : ℕ) → 1 ≤ L → L ≤ mostL
     → (started family k L list ≡ acceptedStart (sessionOf family k L list)) × HasPlan (sessionOf family k L list) steps rounds left reads
-Holds (MostRounds least most rounds) = (k : ℕ) → least ≤ k → k ≤ most → mostWaves k ≡ rounds
+Holds (MostWaves least most rounds) = (k : ℕ) → least ≤ k → k ≤ most → mostWaves k ≡ rounds
 Holds (Starts family k L list number) = started family k L list .refusal ≡ number
 Holds (BoxGives bytes number) = checkedBox bytes .refusal ≡ number
 Holds (BoxReads box s after) =
@@ -197,13 +197,13 @@ table =
     -- j. Simplex 3, none live: steps 0, rounds 0, left 7; all live: left 0, rounds 0
     ∷ Plans 1 3 [] [] 0 (1 ∷ 2 ∷ 3 ∷ 4 ∷ 5 ∷ 6 ∷ 7 ∷ []) []
     ∷ Plans 1 3 (1 ∷ 2 ∷ 3 ∷ 4 ∷ 5 ∷ 6 ∷ 7 ∷ []) [] 0 [] []
-    -- At most 1 round for k = 2, 2 for 3 and 4, 3 for 5 to 8, 4 for 9 to 16, 5 for 17 to 22 (document 02, K9); a chain of k nodes,
-    -- weight-two 5 with 1, 6, 10, 13 and 15 live, has so many
-    ∷ MostRounds 2 2 1
-    ∷ MostRounds 3 4 2
-    ∷ MostRounds 5 8 3
-    ∷ MostRounds 9 16 4
-    ∷ MostRounds 17 22 5
+    -- At most 1 for k = 2, 2 for 3 and 4, 3 for 5 to 8, 4 for 9 to 16, 5 for 17 to 22 (document 02, K9); a chain of k nodes, weight-two 5
+    -- with 1, 6, 10, 13 and 15 live, has so many
+    ∷ MostWaves 2 2 1
+    ∷ MostWaves 3 4 2
+    ∷ MostWaves 5 8 3
+    ∷ MostWaves 9 16 4
+    ∷ MostWaves 17 22 5
     ∷ Plans 2 5 (1 ∷ 6 ∷ 10 ∷ 13 ∷ 15 ∷ [])
     (1 ∷ 2 ∷ 1 ∷ 6 ∷ 1 ∷ 7 ∷ 6 ∷ 10 ∷ 1 ∷ 11 ∷ 10 ∷ 13 ∷ 1 ∷ 14 ∷ 13 ∷ 15
     ∷ 2 ∷ 3 ∷ 1 ∷ 7 ∷ 2 ∷ 4 ∷ 2 ∷ 11 ∷ 2 ∷ 8 ∷ 6 ∷ 11 ∷ 2 ∷ 9 ∷ 7 ∷ 14 ∷ 2 ∷ 12 ∷ 10 ∷ 14

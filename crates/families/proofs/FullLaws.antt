@@ -21,7 +21,7 @@ pub record Full (f : Family) (k hole : ℕ) : Type 0 where
   pub every : (c : ℕ) → 1 ≤ c → c < 2 ^ k → (c ≡ hole → ⊥) → 1 ≤ nodeOf f k c
   pub none-at-hole : nodeOf f k hole ≡ 0
 
--- a number of k digits, unless it is a hole other than 0
+-- a number of k digits is 0 or a node's column, unless it is a hole other than 0
 pub full-column : {f : Family} {k hole : ℕ} → Full f k hole → (c : ℕ) → c < 2 ^ k → (c ≡ hole → c ≡ 0) → ZeroOrNode f k c
 full-column {f} {k} {hole} full c below only = go (ℕ-discrete c 0)
   where

@@ -79,6 +79,11 @@ column-once Tetrahedron k i j r m n e =
 abbrev pub ZeroOrNode : Family → ℕ → ℕ → Type 0
 ZeroOrNode f k c = (c ≡ 0) ⊎ (1 ≤ nodeOf f k c)
 
+-- c is 0, or the column of a live node m
+pub data Known (f : Family) (k : ℕ) (live : ℕ → Bool) (c : ℕ) : Type 0 where
+  nothing : c ≡ 0 → Known f k live c
+  of-node : (m : ℕ) → IsNode f k m → live m ≡ true → columnOf f k m ≡ c → Known f k live c
+
 module _ (f : Family) (k : ℕ) (r : KInRange f k) where
   test : ℕ → ℕ → Bool
   test c j = eqb (columnOf f k j) c

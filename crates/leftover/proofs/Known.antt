@@ -13,14 +13,9 @@ use Rattle.base.proofs.Tests.{and-left, and-right, is-false, not-both}
 use Rattle.base.proofs.Xor.{xor-third-of}
 use Rattle.families.specs.declared.Family.{Family}
 use Rattle.families.specs.Families.{KInRange, IsNode, columnOf, nodeOf, areRelated}
-use Rattle.families.proofs.Laws.{ZeroOrNode, column, column-once, node-is, node-of}
+use Rattle.families.proofs.Laws.{ZeroOrNode, Known, nothing, of-node, column, column-once, node-is, node-of}
 use Rattle.planning.specs.Pairs.{NoPairLeft}
 use Rattle.leftover.proofs.Tests.{or-either}
-
--- c is 0, or the column of a live node m
-pub data Known (f : Family) (k : ℕ) (live : ℕ → Bool) (c : ℕ) : Type 0 where
-  nothing : c ≡ 0 → Known f k live c
-  of-node : (m : ℕ) → IsNode f k m → live m ≡ true → columnOf f k m ≡ c → Known f k live c
 
 module _ (f : Family) (k : ℕ) (r : KInRange f k) (live : ℕ → Bool) where
   -- the same as a test

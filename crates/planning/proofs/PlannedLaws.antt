@@ -16,7 +16,7 @@ use Rattle.families.specs.declared.Family.{Family}
 use Rattle.families.specs.Families.{KInRange, nodeCount}
 use Rattle.lists.specs.Lists.{liveNodes, setLive}
 use Rattle.planning.specs.Claims.{CanMakeAll}
-use Rattle.planning.specs.Plan.{Step, isRepaired, stepOf, roundSteps, marksAfter, roundsFrom, planOf, stepBytes, lastRound, nodesLeft}
+use Rattle.planning.specs.Plan.{Step, isRepaired, stepOf, roundSteps, marksAfter, roundsFrom, planOf, wavesOf, stepBytes, lastRound, nodesLeft}
 use Rattle.planning.specs.Inner.{plannedOf}
 use Rattle.planning.proofs.MakeLaws.{length-marksAfter, can-make-append, round-makes, make-counts, left-few, left-is}
 use Rattle.planning.proofs.PlanLaws.{rounds-end, rounds-more}
@@ -62,7 +62,7 @@ pub record Rounds (f : Family) (k : ℕ) (start : List Bool) (before out : List 
   pub bytes : out ≡ putMid 0 (4 * length done) before (stepBytes done)
 
 pub rounds-none : {f : Family} {k : ℕ} {marks : List Bool} {out : List ℕ} → KInRange f k → length marks ≡ 256 → 4 * nodeCount f k ≤ length out → Rounds f k marks out out marks 0 0
-unfolding planOf setLive stepBytes flatMap lastRound getLastD
+unfolding wavesOf setLive stepBytes flatMap lastRound getLastD
 rounds-none {f} {k} range size h =
     record {
       range = range;

@@ -11,13 +11,13 @@ use Rattle.families.proofs.Laws.{few}
 use Rattle.lists.specs.Lists.{isLive}
 use Rattle.counts.proofs.Laws.{sum-all}
 use Rattle.planning.specs.Claims.{PlanClaim, ReadsClaim, LiveReadsClaim}
-use Rattle.planning.specs.Plan.{sourcesOf, timesRead, planOf}
+use Rattle.planning.specs.Plan.{sourcesOf, timesRead, planOf, wavesOf}
 use Rattle.planning.proofs.MakeLaws.{make-counts, left-few}
 use Rattle.planning.proofs.SourceLaws.{length-sources, sources-inside, reads-are, times-few}
 use Rattle.planning.proofs.PlanLaws.{rounds-end, rounds-make, rounds-quiet, rounds-enough}
 
 pub plan-claim : PlanClaim
-unfolding planOf
+unfolding wavesOf
 plan-claim f k range marks size =
     let n : ℕ = nodeCount f k in
     let makes = rounds-make f k range n marks size 1 in

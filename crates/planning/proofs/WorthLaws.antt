@@ -2,7 +2,7 @@
 -- Assumes nothing.
 use mathlib.Core.Path.{_≡_, refl, sym, _∙_}
 use mathlib.Core.Bool.{Bool, true, false, cond, not}
-use mathlib.Core.List.{List, _∷_, map}
+use mathlib.Core.List.{List, _∷_, map, Memᴰ·map}
 use mathlib.Core.Logic.{⊎-elim}
 use Prim.Native.Nat.{ℕ, zero, suc, _+_, _/_, _≤_, _<_}
 use native.Mathlib.Nat.{eq-or-lt-of-le}
@@ -11,17 +11,18 @@ use native.Mathlib.Omega.{arith}
 use borrow.Author.Tests.{eqb-true, ltb-true}
 use lib.Bits.{bitXor}
 use lib.Dec.{ltb}
-use lib.ListN.{length, getD, set, drop, replicate, length-set, getD-replicate, drop-of-length-le}
-use lib.Seq.{drop-cons, getD-set-same}
+use lib.ListN.{length, getD, set, drop, replicate, getD-replicate, drop-of-length-le}
+use lib.Seq.{drop-cons}
 use Rattle.base.specs.Ranges.{thoseFrom}
 use Rattle.base.proofs.Tests.{and-right}
 use Rattle.base.proofs.Xor.{xor-third}
+use Rattle.base.proofs.RangeLaws.{those-has}
 use Rattle.families.specs.declared.Family.{Family}
 use Rattle.families.specs.Families.{KInRange, IsNode, nodeCount, columnOf, areRelated}
 use Rattle.families.proofs.Laws.{few, node-is}
 use Rattle.lists.specs.Lists.{isLive, noneLive, setLive, liveNodes}
 use Rattle.lists.proofs.Laws.{length-setLive}
-use Rattle.lists.proofs.MarkLaws.{live-keeps, live-append}
+use Rattle.lists.proofs.MarkLaws.{live-keeps, live-append, live-listed}
 use Rattle.planning.specs.Pairs.{smallerNode, largerNode}
 use Rattle.planning.specs.Plan.{isRepaired}
 use Rattle.planning.specs.Inner.{thirdNode, thirds, worthTrying}
@@ -44,19 +45,7 @@ module _ (marks : List Bool) where
   first P j m v p = rw v p
 
   one-set : (g : ℕ → ℕ) (j m b : ℕ) (set : List Bool) → g b < length set → j ≤ b → b < j + m → isLive marks b ≡ true → isLive (setLive set (map g (thoseFrom (isLive marks) j m))) (g b) ≡ true
-  unfolding setLive
-  one-set g j zero b s h l u v = absurd (omega arith)
-  one-set g j (suc m) b s h l u v =
-      ⊎-elim here (later (λ t n k. one-set g (suc j) m b t (omega (arith, n)) k (omega arith) v)) (eq-or-lt-of-le l)
-    where
-      here : j ≡ b → isLive (setLive s (map g (thoseFrom (isLive marks) j (suc m)))) (g b) ≡ true
-      here e =
-          rw e (first (λ list. isLive (setLive s (map g list)) (g b) ≡ true) b m v
-          (live-keeps (set s (g b) true) (map g (thoseFrom (isLive marks) (suc b) m)) (g b) (getD-set-same s (g b) true false h)))
-
-      later : ((t : List Bool) → length t ≡ length s → j < b → isLive (setLive t (map g (thoseFrom (isLive marks) (suc j) m))) (g b) ≡ true)
-          → j < b → isLive (setLive s (map g (thoseFrom (isLive marks) j (suc m)))) (g b) ≡ true
-      later next k = from (λ list. isLive (setLive s (map g list)) (g b) ≡ true) j m (λ t. next (set s (g j) true) (length-set s (g j) true) k) (λ t. next s refl k)
+  one-set g j m b s h l u v = live-listed s h (Memᴰ·map g (those-has (isLive marks) j m b l u v))
 
   module _ (f : Family) (k : ℕ) (a b : ℕ) (va : isLive marks a ≡ true) (vb : isLive marks b ≡ true) (o : a < b) where
     third-set : (j m : ℕ) (set : List Bool) → thirdNode f k a b < length set → j ≤ a → b < j + m → isLive (setLive set (thirds f k (thoseFrom (isLive marks) j m))) (thirdNode f k a b) ≡ true

@@ -60,9 +60,14 @@ unfoldable pub roundsFrom : Family → ℕ → ℕ → List Bool → ℕ → Lis
 roundsFrom f k r marks zero = []
 roundsFrom f k r marks (suc m) = let steps = roundSteps f k marks r in steps ++ roundsFrom f k (suc r) (marksAfter marks steps) m
 
--- the plan: n rounds are enough, since each until the plan ends repairs a node (`PlanClaims`)
-unfoldable pub planOf : Family → ℕ → List Bool → List Step
-planOf f k marks = roundsFrom f k 1 marks (nodeCount f k)
+-- these rounds, in which a live node may be read by any number of repairs, are called waves (document 02, K11): those from marks. n are
+-- enough, since each until they end repairs a node (`PlanClaims`)
+unfoldable pub wavesOf : Family → ℕ → List Bool → List Step
+wavesOf f k marks = roundsFrom f k 1 marks (nodeCount f k)
+
+-- the plan: its rounds are waves
+abbrev pub planOf : Family → ℕ → List Bool → List Step
+planOf f k marks = wavesOf f k marks
 
 -- four bytes a step: round, node, smaller, larger
 unfoldable pub stepBytes : List Step → List ℕ

@@ -12,9 +12,9 @@ use Rattle.encoding.specs.Matrix.{nodeBlock}
 use Rattle.lists.specs.Lists.{someOutside, rises, isLive, someMissing}
 use Rattle.planning.specs.Claims.{CanMake}
 use Rattle.planning.specs.Pairs.{NoPairLeft}
-use Rattle.planning.specs.Plan.{Step}
+use Rattle.planning.specs.Plan.{Step, wavesOf}
 use Rattle.planning.specs.Made.{stepsIn}
-use Rattle.waves.specs.Waves.{wavesOf, mostWaves}
+use Rattle.waves.specs.Waves.{mostWaves}
 use Rattle.repair.specs.declared.Session.{Session}
 use Rattle.repair.specs.Session.{afresh, Arrays, nodeCountOf, unsound}
 use Rattle.repair.specs.Boxed.{writtenLength, written}

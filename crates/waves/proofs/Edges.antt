@@ -1,5 +1,5 @@
--- Weight-two: a node joins two of the numbers 0 to k, and a sum that is the node of a and b is a walk from a to b. Its nodes are taken
--- out one by one at the walk's beginning, so that it can be cut anywhere.
+-- Weight-two: a node joins two of the numbers 0 to k, and a sum that is the node of a and b has a walk from a to b in it. The walk's nodes
+-- are taken out one by one at its beginning, so that the sum can be cut anywhere.
 -- Assumes nothing.
 use mathlib.Core.Path.{_≡_, refl, sym, ap, ap₂, _∙_}
 use mathlib.Core.Bool.{Bool, cond}

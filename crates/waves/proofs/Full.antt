@@ -13,9 +13,10 @@ use Rattle.families.specs.declared.Family.{Family}
 use Rattle.families.specs.declared.Family.the-variants.{Simplex, Tetrahedron}
 use Rattle.families.specs.Families.{KInRange, IsNode, columnOf}
 use Rattle.families.proofs.FullLaws.{Full, full-column, simplex-full, tetrahedron-full}
-use Rattle.families.proofs.Laws.{ZeroOrNode, node-is}
+use Rattle.families.proofs.Laws.{ZeroOrNode, Known, nothing, of-node, node-is}
+use Rattle.lists.specs.Lists.{isLive}
 use Rattle.waves.specs.Waves.{SumOf}
-use Rattle.waves.proofs.Sums.{OneAtMost, nothing, of-node, sum-more, one-is, sum-join, sum-cut, sum-below, sum-few}
+use Rattle.waves.proofs.Sums.{sum-more, one-is, sum-join, sum-cut, sum-below, sum-few}
 use Rattle.waves.proofs.Halves.{Halves, Halving}
 
 -- ---- simplex: every number of k digits is 0 or a column, so that any halves will do
@@ -39,9 +40,9 @@ module _ (f : Family) (k hole : ℕ) (range : KInRange f k) (full : Full f k hol
   one-column : {c : ℕ} → One c → ZeroOrNode f k c
   one-column {c} s = go (one-is s)
     where
-      go : OneAtMost f k marks c → ZeroOrNode f k c
+      go : Known f k (isLive marks) c → ZeroOrNode f k c
       go (nothing e) = inl e
-      go (of-node x l e) = inr (omega (arith, node-is f k range c x (l .node) e, l .node .first))
+      go (of-node x m l e) = inr (omega (arith, node-is f k range c x m e, m .first))
 
   -- the XOR of two sums of one node, unless it is the hole
   two : {x y : ℕ} → One x → One y → (bitXor x y ≡ hole → ⊥) → ZeroOrNode f k (bitXor x y)
@@ -96,7 +97,7 @@ module _ (f : Family) (k hole : ℕ) (range : KInRange f k) (full : Full f k hol
         let t = sum-cut 1 1 (p .right-sum) in
         halves (q .left-sum) (q .right-sum) (t .left-sum) (t .right-sum) (rw (q .whole, t .whole) (p .whole))
 
-    pub halve : k ≤ 4 → (m : ℕ) → 1 ≤ m → SumOf f k marks (m + m) whole → Halves f k marks m whole
+    halve : k ≤ 4 → (m : ℕ) → 1 ≤ m → SumOf f k marks (m + m) whole → Halves f k marks m whole
     halve l zero h s = absurd (omega arith)
     halve l (suc zero) h s =
         let p = sum-cut 1 1 s in

@@ -15,11 +15,11 @@ use lib.Pow.{pow-pos}
 use Rattle.base.proofs.Xor.{xor-third, xor-third-of}
 use Rattle.families.specs.declared.Family.{Family}
 use Rattle.families.specs.Families.{KInRange, IsNode, columnOf, nodeOf, areRelated}
-use Rattle.families.proofs.Laws.{ZeroOrNode, column, column-once, node-of}
+use Rattle.families.proofs.Laws.{ZeroOrNode, Known, nothing, of-node, column, column-once, node-of}
 use Rattle.lists.specs.Lists.{isLive}
-use Rattle.planning.proofs.WaveLaws.{marksIn, in-keeps, in-only, in-gets}
+use Rattle.planning.proofs.WaveLaws.{afterWaves, waves-keep, waves-only, waves-get}
 use Rattle.waves.specs.Waves.{SumOf, Reached}
-use Rattle.waves.proofs.Sums.{Parts, OneAtMost, nothing, of-node, sum-more, sum-is, sum-one, one-is, sum-join}
+use Rattle.waves.proofs.Sums.{Parts, sum-more, sum-is, sum-one, one-is, sum-join}
 
 -- a sum of m + m nodes in two of m, each of which is 0 or a node's column
 pub record Halves (f : Family) (k : ℕ) (marks : List Bool) (m c : ℕ) : Type 0 where
@@ -31,22 +31,25 @@ pub record Halves (f : Family) (k : ℕ) (marks : List Bool) (m c : ℕ) : Type 
 abbrev pub Halving : Family → ℕ → List Bool → Type 0
 Halving f k marks = (m j : ℕ) → 1 ≤ m → IsNode f k j → SumOf f k marks (m + m) (columnOf f k j) → Halves f k marks m (columnOf f k j)
 
+-- live after r waves
+abbrev pub liveAfter : Family → ℕ → List Bool → ℕ → ℕ → Bool
+liveAfter f k marks r j = isLive (afterWaves f k marks r) j
+
 module _ (f : Family) (k : ℕ) (range : KInRange f k) (marks : List Bool) where
-  -- live after r waves
-  abbrev pub liveIn : ℕ → ℕ → Bool
-  liveIn r j = isLive (marksIn f k marks r) j
+  abbrev live : ℕ → ℕ → Bool
+  live = liveAfter f k marks
 
   -- ---- upward
 
-  pub upward : (r j : ℕ) → IsNode f k j → liveIn r j ≡ true → Reached f k marks j r
-  unfolding marksIn areRelated
+  pub upward : (r j : ℕ) → IsNode f k j → live r j ≡ true → Reached f k marks j r
+  unfolding afterWaves areRelated
   upward zero j n h = sum-one j (record { node = n; live = h })
-  upward (suc r) j n h = go (liveIn r j) refl (λ i m g. upward r i m g)
+  upward (suc r) j n h = go (live r j) refl (λ i m g. upward r i m g)
     where
-      go : (b : Bool) → liveIn r j ≡ b → ((i : ℕ) → IsNode f k i → liveIn r i ≡ true → Reached f k marks i r) → Reached f k marks j (suc r)
+      go : (b : Bool) → live r j ≡ b → ((i : ℕ) → IsNode f k i → live r i ≡ true → Reached f k marks i r) → Reached f k marks j (suc r)
       go true e before = sum-more (omega (arith, pow-suc 2 r)) (before j n e)
       go false e before =
-          let p = in-only f k range marks r j e h in
+          let p = waves-only f k range marks r j e h in
           let s : columnOf f k j ≡ bitXor (columnOf f k (p .one)) (columnOf f k (p .other))
           = xor-third (columnOf f k (p .one)) (columnOf f k (p .other)) (columnOf f k j) (eqb-true _ 0 (p .related)) in
           sum-is (sym s) (sum-more (omega (arith, pow-suc 2 r))
@@ -58,14 +61,14 @@ module _ (f : Family) (k : ℕ) (range : KInRange f k) (marks : List Bool) where
   single : (j : ℕ) → IsNode f k j → SumOf f k marks 1 (columnOf f k j) → isLive marks j ≡ true
   single j n s = go (one-is s)
     where
-      go : OneAtMost f k marks (columnOf f k j) → isLive marks j ≡ true
+      go : Known f k (isLive marks) (columnOf f k j) → isLive marks j ≡ true
       go (nothing e) = absurd (omega (arith, column f k j range n .positive))
-      go (of-node x l e) = rw (column-once f k x j range (l .node) n e) at (l .live)
+      go (of-node x m l e) = rw (column-once f k x j range m n e) at l
 
   module _ (size : length marks ≡ 256) where
     -- two halves that are live after r waves make the whole live after one more
-    from-halves : (r j : ℕ) → IsNode f k j → ((i : ℕ) → IsNode f k i → Reached f k marks i r → liveIn r i ≡ true)
-        → Halves f k marks (2 ^ r) (columnOf f k j) → liveIn (suc r) j ≡ true
+    from-halves : (r j : ℕ) → IsNode f k j → ((i : ℕ) → IsNode f k i → Reached f k marks i r → live r i ≡ true)
+        → Halves f k marks (2 ^ r) (columnOf f k j) → live (suc r) j ≡ true
     unfolding areRelated
     from-halves r j n before h = go (h .left-column) (h .right-column)
       where
@@ -75,14 +78,14 @@ module _ (f : Family) (k : ℕ) (range : KInRange f k) (marks : List Bool) where
         y : ℕ
         y = h .parts .right
 
-        go : ZeroOrNode f k x → ZeroOrNode f k y → liveIn (suc r) j ≡ true
-        go (inl e) c = in-keeps f k marks r j (before j n (sum-is (ap (λ (z : ℕ). bitXor z y) (sym e) ∙ h .parts .whole) (h .parts .right-sum)))
+        go : ZeroOrNode f k x → ZeroOrNode f k y → live (suc r) j ≡ true
+        go (inl e) c = waves-keep f k marks r j (before j n (sum-is (ap (λ (z : ℕ). bitXor z y) (sym e) ∙ h .parts .whole) (h .parts .right-sum)))
         go (inr l) (inl e) =
-            in-keeps f k marks r j (before j n (sum-is (sym (xor-zero-r x) ∙ ap (bitXor x) (sym e) ∙ h .parts .whole) (h .parts .left-sum)))
+            waves-keep f k marks r j (before j n (sum-is (sym (xor-zero-r x) ∙ ap (bitXor x) (sym e) ∙ h .parts .whole) (h .parts .left-sum)))
         go (inr l) (inr q) =
             let a = node-of f k range x l in
             let b = node-of f k range y q in
-            in-gets f k range marks size r j n
+            waves-get f k range marks size r j n
             (record {
               one = nodeOf f k x;
               other = nodeOf f k y;
@@ -91,8 +94,8 @@ module _ (f : Family) (k : ℕ) (range : KInRange f k) (marks : List Bool) where
               related = eq-eqb _ 0 (xor-third-of (columnOf f k (nodeOf f k x)) (columnOf f k (nodeOf f k y)) (columnOf f k j) (sym (h .parts .whole) ∙ ap₂ bitXor (sym (a .has)) (sym (b .has))));
             })
 
-    pub downward : Halving f k marks → (r j : ℕ) → IsNode f k j → Reached f k marks j r → liveIn r j ≡ true
-    unfolding marksIn
+    pub downward : Halving f k marks → (r j : ℕ) → IsNode f k j → Reached f k marks j r → live r j ≡ true
+    unfolding afterWaves
     downward halving zero j n s = single j n s
     downward halving (suc r) j n s =
         from-halves r j n (λ i m t. downward halving r i m t) (halving (2 ^ r) j (pow-pos r) n (sum-more (omega (arith, pow-suc 2 r)) s))

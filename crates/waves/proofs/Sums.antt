@@ -12,7 +12,8 @@ use Rattle.base.proofs.EachLaws.{each-none, each-cons, each-first, each-append,
 use Rattle.base.proofs.Reduce.{Below, xorOf-append, xorOf-below, reduce}
 use Rattle.families.specs.declared.Family.{Family}
 use Rattle.families.specs.Families.{KInRange, columnOf}
-use Rattle.families.proofs.Laws.{column}
+use Rattle.families.proofs.Laws.{Known, nothing, of-node, column}
+use Rattle.lists.specs.Lists.{isLive}
 use Rattle.planning.specs.Pairs.{LiveNode}
 use Rattle.waves.specs.Waves.{SumOf}
 
@@ -23,11 +24,6 @@ pub record Parts (f : Family) (k : ℕ) (marks : List Bool) (m n c : ℕ) : Type
   pub left-sum : SumOf f k marks m left
   pub right-sum : SumOf f k marks n right
   pub whole : bitXor left right ≡ c
-
--- c is 0, or a live node's column
-pub data OneAtMost (f : Family) (k : ℕ) (marks : List Bool) (c : ℕ) : Type 0 where
-  nothing : c ≡ 0 → OneAtMost f k marks c
-  of-node : (j : ℕ) → LiveNode f k marks j → columnOf f k j ≡ c → OneAtMost f k marks c
 
 module _ {f : Family} {k : ℕ} {marks : List Bool} where
   pub sum-more : {m n c : ℕ} → m ≤ n → SumOf f k marks m c → SumOf f k marks n c
@@ -43,12 +39,12 @@ module _ {f : Family} {k : ℕ} {marks : List Bool} where
   sum-one j l =
       record { nodes = j ∷ []; few = omega arith; live = each-cons (LiveNode f k marks) j [] l (each-none (LiveNode f k marks)); sum = xor-zero-r (columnOf f k j) }
 
-  pub one-is : {c : ℕ} → SumOf f k marks 1 c → OneAtMost f k marks c
+  pub one-is : {c : ℕ} → SumOf f k marks 1 c → Known f k (isLive marks) c
   one-is {c} s = go (s .nodes) (s .few) (s .live) (s .sum)
     where
-      go : (list : List ℕ) → length list ≤ 1 → Each (LiveNode f k marks) list → xorOf (columnOf f k) list ≡ c → OneAtMost f k marks c
+      go : (list : List ℕ) → length list ≤ 1 → Each (LiveNode f k marks) list → xorOf (columnOf f k) list ≡ c → Known f k (isLive marks) c
       go [] l a e = nothing (sym e)
-      go (x ∷ []) l a e = of-node x (each-first (LiveNode f k marks) x [] a) (sym (xor-zero-r (columnOf f k x)) ∙ e)
+      go (x ∷ []) l a e = let n = each-first (LiveNode f k marks) x [] a in of-node x (n .node) (n .live) (sym (xor-zero-r (columnOf f k x)) ∙ e)
       go (x ∷ y ∷ list) l a e = absurd (omega arith)
 
   pub sum-join : {m n c d : ℕ} → SumOf f k marks m c → SumOf f k marks n d → SumOf f k marks (m + n) (bitXor c d)

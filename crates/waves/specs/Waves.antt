@@ -1,5 +1,5 @@
--- Which round a node returns in (document 02, K9). The rounds of document 01, in which a live node may be read by any number of repairs,
--- are called waves here (document 02, K11); proofs/Proved.antt has the proofs.
+-- Which round a node returns in (document 02, K9), of document 01's rounds, which are called waves, and of which the plan is made.
+-- proofs/Proved.antt has the proofs.
 use mathlib.Core.Path.{_≡_}
 use mathlib.Core.Bool.{Bool, false, cond}
 use mathlib.Core.List.{List}
@@ -12,11 +12,7 @@ use Rattle.families.specs.declared.Family.{Family}
 use Rattle.families.specs.Families.{KInRange, IsNode, columnOf}
 use Rattle.lists.specs.Lists.{isLive}
 use Rattle.planning.specs.Pairs.{LiveNode}
-use Rattle.planning.specs.Plan.{Step, RepairedIn, planOf, marksAfter, lastRound}
-
--- the waves from marks, as steps: the rounds of the plan are waves
-abbrev pub wavesOf : Family → ℕ → List Bool → List Step
-wavesOf f k marks = planOf f k marks
+use Rattle.planning.specs.Plan.{RepairedIn, marksAfter, wavesOf, lastRound}
 
 -- c is the XOR of the columns of at most m live nodes
 pub record SumOf (f : Family) (k : ℕ) (marks : List Bool) (m c : ℕ) : Type 0 where
