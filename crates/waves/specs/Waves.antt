@@ -30,7 +30,7 @@ pub record LeastReached (f : Family) (k : ℕ) (marks : List Bool) (j r : ℕ) :
   pub reached : Reached f k marks j r
   pub not-before : (s : ℕ) → s < r → Reached f k marks j s → ⊥
 
--- 1 for k = 2, 2 for 3 and 4, 3 for 5 to 8, 4 for 9 to 16, 5 for 17 to 22
+-- the most waves: 1 for k = 2, 2 for 3 and 4, 3 for 5 to 8, 4 for 9 to 16, 5 for 17 to 22
 abbrev pub mostWaves : ℕ → ℕ
 mostWaves k = cond (leb k 2) 1 (cond (leb k 4) 2 (cond (leb k 8) 3 (cond (leb k 16) 4 5)))
 
@@ -40,7 +40,7 @@ pub record WaveClaims (f : Family) (k : ℕ) (marks : List Bool) : Type 0 where
   pub in-its-wave : (j r : ℕ) → IsNode f k j → isLive marks j ≡ false → RepairedIn j r (wavesOf f k marks) ↔ LeastReached f k marks j r
   -- a node that is left is reached for no r, and a node that is reached for none is left
   pub left-out : (j : ℕ) → IsNode f k j → (isLive (marksAfter marks (wavesOf f k marks)) j ≡ false) ↔ ((r : ℕ) → Reached f k marks j r → ⊥)
-  -- there are at most so many waves
+  -- the last step's wave is at most that of the table
   pub few-waves : lastRound (wavesOf f k marks) ≤ mostWaves k
 
 -- of every family, every k in its range and all marks
