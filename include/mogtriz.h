@@ -359,8 +359,9 @@ MOGTRIZ_CALL mogtriz_stepped mogtriz_step(mogtriz_session session, uint8_t *node
  * is repaired from the pair whose smaller number is least; it serves from the next round on. Each step is MOGTRIZ_STEP_LEN bytes:
  * round, node, smaller, larger; in a round they rise by node. There are at most n steps, and nothing beyond them is written. No plan
  * has more rounds than 1 for k = 2, 2 for 3 and 4, 3 for 5 to 8, 4 for 9 to 16, 5 for 17 to 22: a node is repaired in the least round r
- * for which its column is the XOR of the columns of at most 2^r nodes that are live when round 1 begins. Where nodes are left the plan
- * is accepted all the same, and `left` says how many. Gives 0 or: 13, 6 where the destination is shorter than the plan.
+ * for which its column is the XOR of the columns of at most 2^r nodes that are live when round 1 begins, and a node that is left has
+ * no such r. Where nodes are left the plan is accepted all the same, and `left` says how many. Gives 0 or: 13, 6 where the destination
+ * is shorter than the plan.
  */
 MOGTRIZ_CALL mogtriz_repairs mogtriz_plan(mogtriz_session session, uint8_t *out, size_t out_len);
 

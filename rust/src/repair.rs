@@ -62,7 +62,7 @@ impl Session {
     /// The repairs to make, in rounds from 1. In a round every missing node with a related pair, both live when the
     /// round began, is repaired from the pair whose smaller number is least; it serves from the next round on. The round that
     /// repairs a node is the least r for which its column is the XOR of the columns of at most 2^r nodes that are live when
-    /// round 1 begins.
+    /// round 1 begins; a node that is left has no such r.
     ///
     /// It takes a destination, for which [`PLAN_ROOM`](crate::PLAN_ROOM) bytes are always enough: each step is written to
     /// it as four bytes, and what lies beyond the steps is not written. It gives the [`Plan`] in it. Where nodes are left

@@ -50,7 +50,7 @@ module _ (v : ℕ → ℕ) (k w : ℕ) where
   less : ℕ → ℕ
   less i = out (v i) (decLt (v i) (2 ^ k))
 
-  -- a XOR is the same without the digit, or differs by w
+  -- an XOR is the same without the digit, or differs by w
   shifted : (list : List ℕ) → (xorOf v list ≡ xorOf less list) ⊎ (xorOf v list ≡ bitXor w (xorOf less list))
   unfolding less out
   shifted [] = inl refl

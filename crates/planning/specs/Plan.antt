@@ -60,8 +60,8 @@ unfoldable pub roundsFrom : Family → ℕ → ℕ → List Bool → ℕ → Lis
 roundsFrom f k r marks zero = []
 roundsFrom f k r marks (suc m) = let steps = roundSteps f k marks r in steps ++ roundsFrom f k (suc r) (marksAfter marks steps) m
 
--- these rounds, in which a live node may be read by any number of repairs, are called waves (document 02, K11): those from marks. n are
--- enough, since each until they end repairs a node (`PlanClaims`)
+-- these rounds, in which a live node may be read by any number of repairs, are called waves (document 02, K11). The waves from marks: n
+-- are enough, since each until they end repairs a node (`PlanClaims`)
 unfoldable pub wavesOf : Family → ℕ → List Bool → List Step
 wavesOf f k marks = roundsFrom f k 1 marks (nodeCount f k)
 

@@ -1,1 +1,1 @@
-// When a node comes back: waves and sums of live nodes as definitions in specs/, and their mathematics in proofs/.
+// When a node comes back: sums of live nodes and the claim in specs/, and their mathematics in proofs/.
