@@ -4,6 +4,7 @@ pub mod Tests
 pub mod Fill
 pub mod First
 pub mod RangeLaws
+pub mod Sums
 pub mod ListLaws
 pub mod EachLaws
 pub mod Reduce
