@@ -4,6 +4,7 @@ use mathlib.Core.Path.{_≡_, refl, sym, ap, ap₂, _∙_}
 use mathlib.Core.Bool.{Bool, true, false, cond}
 use mathlib.Core.List.{List, _∷_}
 use Prim.Native.Nat.{ℕ, zero, suc, _+_, _*_, _≤_, _<_}
+use native.Mathlib.Nat.{zero-add, add-zero, add-suc, suc-add}
 use native.Mathlib.Decide.{ℕ-discrete}
 use native.Mathlib.Omega.{arith}
 use borrow.Author.Tests.{eq-eqb, ne-eqb, eqb-true, lt-ltb}
@@ -46,6 +47,18 @@ sum-const c j (suc m) = omega (arith, sum-const c (suc j) m)
 
 pub sum-zero : (g : ℕ → ℕ) (j m : ℕ) → ((i : ℕ) → j ≤ i → i < j + m → g i ≡ 0) → sumFrom g j m ≡ 0
 sum-zero g j m e = sum-same g (λ i. 0) j m e ∙ sum-const 0 j m ∙ omega arith
+
+-- ---- of one range after the other, and of one that begins c further on
+
+pub sum-append : (g : ℕ → ℕ) (j m n : ℕ) → sumFrom g j (m + n) ≡ sumFrom g j m + sumFrom g (j + m) n
+unfolding sumFrom
+sum-append g j zero n = rw (zero-add n, add-zero j) (omega arith)
+sum-append g j (suc m) n = rw (suc-add m n, add-suc j m) (omega (arith, rw (suc-add j m) at (sum-append g (suc j) m n)))
+
+pub sum-shift : (g : ℕ → ℕ) (j m c : ℕ) → sumFrom (λ i. g (i + c)) j m ≡ sumFrom g (j + c) m
+unfolding sumFrom
+sum-shift g j zero c = refl
+sum-shift g j (suc m) c = ap (λ (x : ℕ). g (j + c) + x) (rw (suc-add j c) at (sum-shift g (suc j) m c))
 
 -- ---- the sum of sums, in either order
 
