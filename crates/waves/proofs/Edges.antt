@@ -2,14 +2,12 @@
 -- are taken out one by one at its beginning, so that the sum can be cut anywhere.
 -- Assumes nothing.
 use mathlib.Core.Path.{_≡_, refl, sym, ap, ap₂, _∙_}
-use mathlib.Core.Bool.{Bool, cond}
+use mathlib.Core.Bool.{Bool}
 use mathlib.Core.List.{List, [], _∷_}
 use Prim.Native.Nat.{ℕ, zero, suc, _+_, _≤_}
 use native.Mathlib.Decide.{ℕ-discrete}
 use native.Mathlib.Omega.{arith}
-use borrow.Author.Tests.{eq-eqb, ne-eqb}
 use lib.Bits.{bitXor, xor-comm, xor-self}
-use lib.Dec.{eqb}
 use lib.ListN.{length}
 use Rattle.base.specs.Numbers.{Each, xorOf}
 use Rattle.base.proofs.EachLaws.{each-cons, each-first, each-rest}
@@ -19,8 +17,7 @@ use Rattle.families.specs.Families.{KInRange, columnOf}
 use Rattle.families.specs.Inner.{unit}
 use Rattle.families.proofs.EdgeLaws.{both, both-through, joined, smaller-within, column-both}
 use Rattle.families.proofs.PairLaws.{PairOf, pair-of}
-use Rattle.encoding.proofs.Linear.{hasBit, xorOver, xorOver-xor}
-use Rattle.encoding.proofs.SideLaws.{digit, at-both, at-node}
+use Rattle.encoding.proofs.EndLaws.{ends, ends-xor, ends-both, ends-none, ends-no, Has, has, other-end}
 use Rattle.planning.specs.Pairs.{LiveNode}
 use Rattle.waves.specs.Waves.{SumOf}
 use Rattle.waves.proofs.Sums.{sum-more, sum-is, sum-none, sum-one, sum-join}
@@ -35,22 +32,6 @@ module _ (k : ℕ) (marks : List Bool) where
 
   -- ---- the nodes at a number
 
-  -- the number a alone is on side 1
-  side : ℕ → ℕ → ℕ
-  side a x = cond (eqb x a) 1 0
-
-  side-yes : (a : ℕ) → side a a ≡ 1
-  unfolding side
-  side-yes a = rw (eq-eqb a a refl)
-
-  side-no : (a x : ℕ) → (x ≡ a → ⊥) → side a x ≡ 0
-  unfolding side
-  side-no a x n = rw (ne-eqb x a n)
-
-  -- 1 for a column that joins a to another number
-  ends : ℕ → ℕ → ℕ
-  ends a c = xorOver k (hasBit c) (digit k (side a))
-
   -- a list without one of its nodes, which joins a to another number
   record Out (a : ℕ) (list : List ℕ) : Type 0 where
     node : ℕ
@@ -63,10 +44,9 @@ module _ (k : ℕ) (marks : List Bool) where
     each : Each Live rest
     sum : xorOf col list ≡ bitXor (col node) (xorOf col rest)
 
-  take-out : (a : ℕ) (list : List ℕ) → Each Live list → ends a (xorOf col list) ≡ 1 → Out a list
-  unfolding ends
-  take-out a [] l h = absurd (omega (arith, h, at-both k (side a) 0 0 (omega arith) (omega arith) ∙ xor-self (side a 0)))
-  take-out a (x ∷ list) l h = go (ℕ-discrete (p .smaller) a) (ℕ-discrete (p .larger) a) (λ g. take-out a list (each-rest Live x list l) g)
+  take-out : (a : ℕ) (list : List ℕ) → Each Live list → ends k a (xorOf col list) ≡ 1 → Out a list
+  take-out a [] l h = absurd (omega (arith, ends-none k a))
+  take-out a (x ∷ list) l h = go (has p a) (λ g. take-out a list (each-rest Live x list l) g)
     where
       live : Live x
       live = each-first Live x list l
@@ -91,13 +71,9 @@ module _ (k : ℕ) (marks : List Bool) where
             sum = ap (bitXor (col x)) (o .sum) ∙ xor-left-comm (col x) (col (o .node)) (xorOf col (o .rest));
           }
 
-      go : Dec (p .smaller ≡ a) → Dec (p .larger ≡ a) → (ends a (xorOf col list) ≡ 1 → Out a list) → Out a (x ∷ list)
-      go (yes e) d later = first (p .larger) (p .within) (column-both p ∙ ap (λ (y : ℕ). both y (p .larger)) e)
-      go (no n) (yes e) later =
-          first (p .smaller) (smaller-within p) (column-both p ∙ ap (λ (y : ℕ). both (p .smaller) y) e ∙ xor-comm (unit (p .smaller)) (unit a))
-      go (no n) (no m) later =
-          let none : ends a (col x) ≡ 0 = at-node k (side a) p ∙ ap₂ bitXor (side-no a (p .smaller) n) (side-no a (p .larger) m) in
-          next (later (sym (xorOver-xor k (col x) (xorOf col list) (digit k (side a)) ∙ ap (λ (y : ℕ). bitXor y (ends a (xorOf col list))) none) ∙ h))
+      go : Dec (Has p a) → (ends k a (xorOf col list) ≡ 1 → Out a list) → Out a (x ∷ list)
+      go (yes e) later = let o = other-end p a e in first (o .end) (o .within) (o .joins)
+      go (no n) later = next (later (sym (ends-xor k a (col x) (xorOf col list) ∙ ap (λ (y : ℕ). bitXor y (ends k a (xorOf col list))) (ends-no p a n)) ∙ h))
 
   -- ---- a walk cut in two
 
@@ -113,14 +89,11 @@ module _ (k : ℕ) (marks : List Bool) where
   stay a b e = sum-is (sym (ap (both a) (sym e) ∙ xor-self (unit a))) sum-none
 
   middle : (p q a b : ℕ) → a ≤ k → b ≤ k → SumOf WeightTwo k marks (p + q) (both a b) → Middle p q a b
-  unfolding ends
   middle zero q a b ha hb s = record { at = a; within = ha; first = stay a a refl; second = sum-more (omega arith) s }
   middle (suc p) q a b ha hb s = go (ℕ-discrete a b) (λ d hd t. middle p q d b hd hb t)
     where
       begin : (a ≡ b → ⊥) → Out a (s .nodes)
-      begin n =
-          take-out a (s .nodes) (s .live)
-          (ap (ends a) (s .sum) ∙ at-both k (side a) a b ha hb ∙ ap₂ bitXor (side-yes a) (side-no a b (λ e. n (sym e))))
+      begin n = take-out a (s .nodes) (s .live) (ap (ends k a) (s .sum) ∙ ends-both k a b ha hb n)
 
       go : Dec (a ≡ b) → ((d : ℕ) → d ≤ k → SumOf WeightTwo k marks (p + q) (both d b) → Middle p q d b) → Middle (suc p) q a b
       go (yes e) later = record { at = a; within = ha; first = stay a a refl; second = stay a b e }
