@@ -62,3 +62,9 @@ module _ (test : ℕ → Bool) where
   -- where none is found, none passes
   pub first-zero : (j m : ℕ) → 1 ≤ j → firstFrom test j m ≡ 0 → (i : ℕ) → j ≤ i → i < j + m → test i ≡ false
   first-zero j m p e i l h = is-false (test i) (λ t. omega (arith, first-least j m i p l h t))
+
+-- tests that agree find the same
+pub first-same : (s t : ℕ → Bool) (j m : ℕ) → ((i : ℕ) → j ≤ i → i < j + m → s i ≡ t i) → firstFrom s j m ≡ firstFrom t j m
+unfolding firstFrom
+first-same s t j zero h = refl
+first-same s t j (suc m) h = rw (h j (omega arith) (omega arith), first-same s t (suc j) m (λ i a b. h i (omega arith) (omega arith)))

@@ -48,6 +48,21 @@ sum-const c j (suc m) = omega (arith, sum-const c (suc j) m)
 pub sum-zero : (g : ℕ → ℕ) (j m : ℕ) → ((i : ℕ) → j ≤ i → i < j + m → g i ≡ 0) → sumFrom g j m ≡ 0
 sum-zero g j m e = sum-same g (λ i. 0) j m e ∙ sum-const 0 j m ∙ omega arith
 
+pub sum-most : (g h : ℕ → ℕ) (j m : ℕ) → ((i : ℕ) → j ≤ i → i < j + m → g i ≤ h i) → sumFrom g j m ≤ sumFrom h j m
+unfolding sumFrom
+sum-most g h j zero e = omega arith
+sum-most g h j (suc m) e = omega (arith, e j (omega arith) (omega arith), sum-most g h (suc j) m (λ i a b. e i (omega arith) (omega arith)))
+
+-- one term is at most the sum
+pub sum-least : (g : ℕ → ℕ) (j m x : ℕ) → j ≤ x → x < j + m → g x ≤ sumFrom g j m
+unfolding sumFrom
+sum-least g j zero x l h = absurd (omega arith)
+sum-least g j (suc m) x l h = go (ℕ-discrete j x) (λ n. sum-least g (suc j) m x n (omega arith))
+  where
+    go : Dec (j ≡ x) → (suc j ≤ x → g x ≤ sumFrom g (suc j) m) → g x ≤ g j + sumFrom g (suc j) m
+    go (yes e) later = omega (arith, ap g e)
+    go (no n) later = omega (arith, later (omega arith))
+
 -- ---- of one range after the other, and of one that begins c further on
 
 pub sum-append : (g : ℕ → ℕ) (j m n : ℕ) → sumFrom g j (m + n) ≡ sumFrom g j m + sumFrom g (j + m) n

@@ -1,11 +1,13 @@
 -- Counts: their sum and what one more for a number does to it, and counts against numbers that are no nodes'.
 -- Assumes nothing.
-use mathlib.Core.Path.{_≡_, refl, ap, _∙_}
-use mathlib.Core.Bool.{true, false, false≢true}
-use mathlib.Core.List.{List, [], _∷_, _++_}
+use mathlib.Core.Path.{_≡_, refl, sym, ap, _∙_}
+use mathlib.Core.Bool.{true, false, cond, false≢true}
+use mathlib.Core.List.{List, [], _∷_, _++_, map}
 use Prim.Native.Nat.{ℕ, zero, suc, _+_, _≤_, _<_}
+use native.Mathlib.Decide.{ℕ-discrete}
 use native.Mathlib.Omega.{arith}
-use lib.Dec.{ltb}
+use borrow.Author.Tests.{eq-eqb, ne-eqb}
+use lib.Dec.{eqb, ltb}
 use lib.ListN.{length, drop, replicate, length-set, drop-of-length-le}
 use lib.Seq.{drop-cons, getD-set-same, getD-set-other}
 use Rattle.lists.specs.Lists.{someOutside}
@@ -66,6 +68,26 @@ pub count-append : (counts a b : List ℕ) → countAll counts (a ++ b) ≡ coun
 unfolding countAll
 count-append counts [] b = refl
 count-append counts (j ∷ a) b = count-append (oneMore counts j) a b
+
+-- the sum grows by the length of the list at most
+pub sum-all-most : (counts list : List ℕ) → sumOf (countAll counts list) ≤ sumOf counts + length list
+unfolding countAll
+sum-all-most counts [] = omega arith
+sum-all-most counts (j ∷ list) = omega (arith, sum-all-most (oneMore counts j) list, sum-one-most counts j)
+
+-- a count grows by how often its number is in the list
+pub count-times : (counts list : List ℕ) (j : ℕ) → j < length counts → countOf (countAll counts list) j ≡ countOf counts j + sumOf (map (λ i. cond (eqb i j) 1 0) list)
+unfolding countAll sumOf
+count-times counts [] j h = omega arith
+count-times counts (i ∷ list) j h = go (ℕ-discrete i j) (count-times (oneMore counts i) list j (omega (arith, length-set counts i (countOf counts i + 1))))
+  where
+    times : ℕ
+    times = sumOf (map (λ i. cond (eqb i j) 1 0) list)
+
+    go : Dec (i ≡ j) → countOf (countAll (oneMore counts i) list) j ≡ countOf (oneMore counts i) j + times
+        → countOf (countAll (oneMore counts i) list) j ≡ countOf counts j + (cond (eqb i j) 1 0 + times)
+    go (yes e) later = rw (eq-eqb i j e) (omega (arith, later, ap (λ (x : ℕ). countOf (oneMore counts x) j) e, count-same counts j h))
+    go (no n) later = rw (ne-eqb i j n) (omega (arith, later, count-other counts i j (λ e. n (sym e))))
 
 -- the sum grows by the length of the list, whose numbers all have a count
 pub sum-all : (n : ℕ) (counts list : List ℕ) → n < length counts → someOutside n list ≡ false → sumOf (countAll counts list) ≡ sumOf counts + length list

@@ -35,6 +35,13 @@ pub fn counted_outside(n: usize, counts: [u16; 256]) -> bool
     false
 }
 
+// A count as a number of the machine's width.
+pub fn wide(count: u16) -> usize
+    ensures { λ r. ⌜ r ≡ count ⌝ }
+{
+    count as usize
+}
+
 // One more for a number.
 pub fn count_one(counts: &mut [u16; 256], j: usize)
     requires { ⌜ (j < 256) × (countOf (now counts) j < 65535) ⌝ }

@@ -21,7 +21,7 @@ use Rattle.interleaving.specs.Interleaved.{interleaved, deinterleaved, interlea
 use Rattle.interleaving.proofs.Answers.{kept}
 use Rattle.lists.specs.Lists.{someOutside, rises, placeIn, setLive, someMissing, passesOutside}
 use Rattle.counts.specs.Counts.{countOf, countAll, sumOf}
-use Rattle.planning.specs.Pairs.{largerNode, smallerNode}
+use Rattle.pairing.specs.Pairs.{largerNode, smallerNode}
 use Rattle.planning.specs.Plan.{isRepaired, roundsFrom, wavesOf, sourcesOf, marksAfter, stepBytes, lastRound, nodesLeft}
 use Rattle.planning.specs.Made.{stepsIn}
 use Rattle.planning.proofs.RoundLaws.{length-bytes}

@@ -13,7 +13,7 @@ use Rattle.families.specs.declared.Family.{Family}
 use Rattle.families.specs.Families.{KInRange, IsNode, columnOf}
 use Rattle.families.proofs.FullLaws.{Full}
 use Rattle.families.proofs.Laws.{column, node-is}
-use Rattle.planning.specs.Pairs.{NoPairLeft}
+use Rattle.pairing.specs.Pairs.{NoPairLeft}
 use Rattle.leftover.proofs.Cut.{Cut}
 use Rattle.leftover.proofs.Known.{known, known-zero, known-live, known-below, known-xor, missing-unknown}
 use Rattle.leftover.proofs.Separate.{Above, Separated, separate, widened, widen, widen-by, widened-apart, xor-undo}

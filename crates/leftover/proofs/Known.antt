@@ -14,7 +14,7 @@ use Rattle.base.proofs.Xor.{xor-third-of}
 use Rattle.families.specs.declared.Family.{Family}
 use Rattle.families.specs.Families.{KInRange, IsNode, columnOf, nodeOf, areRelated}
 use Rattle.families.proofs.Laws.{ZeroOrNode, Known, nothing, of-node, column, column-once, node-is, node-of}
-use Rattle.planning.specs.Pairs.{NoPairLeft}
+use Rattle.pairing.specs.Pairs.{NoPairLeft}
 use Rattle.leftover.proofs.Tests.{or-either}
 
 module _ (f : Family) (k : ℕ) (r : KInRange f k) (live : ℕ → Bool) where

@@ -13,7 +13,7 @@ use Rattle.families.proofs.EdgeLaws.{both, both-through, joined, smaller-within
 use Rattle.families.proofs.PairLaws.{PairOf, pair-of}
 use Rattle.encoding.proofs.Linear.{hasBit, xorOver}
 use Rattle.encoding.proofs.SideLaws.{digit, at-node}
-use Rattle.planning.specs.Pairs.{NoPairLeft}
+use Rattle.pairing.specs.Pairs.{NoPairLeft}
 use Rattle.leftover.proofs.Cut.{Cut}
 use Rattle.leftover.proofs.Known.{known, known-zero, known-live, known-xor, missing-unknown}
 use Rattle.leftover.proofs.Tests.{choice-below}

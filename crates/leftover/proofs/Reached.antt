@@ -10,7 +10,7 @@ use Rattle.families.specs.Families.{IsNode, columnOf, areRelated}
 use Rattle.blocks.specs.Blocks.{xorBytes}
 use Rattle.encoding.specs.Matrix.{nodeBlock}
 use Rattle.encoding.proofs.Nodes.{related-block}
-use Rattle.planning.specs.Pairs.{NoPairLeft}
+use Rattle.pairing.specs.Pairs.{NoPairLeft}
 use Rattle.leftover.specs.Open.{Open}
 
 pub data Reached (f : Family) (k : ℕ) (list : List ℕ) : ℕ → Type 0 where

@@ -1,15 +1,17 @@
--- Marks set live: they stay so, lists may be set one after the other, and nothing else becomes live.
+-- Marks set live: they stay so, lists may be set one after the other, and nothing else becomes live; marks turned round.
 -- Assumes nothing.
 use mathlib.Core.Path.{_≡_, refl, sym, _∙_}
-use mathlib.Core.Bool.{Bool, true, false}
+use mathlib.Core.Bool.{Bool, true, false, not}
 use mathlib.Core.List.{List, List·Memᴰ, List·Memᴰ·head, List·Memᴰ·tail, [], _∷_, _++_}
-use Prim.Native.Nat.{ℕ, zero, suc, _<_}
+use Prim.Native.Nat.{ℕ, zero, suc, _≤_, _<_}
 use native.Mathlib.Decide.{ℕ-discrete}
 use native.Mathlib.Omega.{arith}
 use lib.ListN.{length, set, length-set}
 use lib.Seq.{getD-set-same, getD-set-other}
+use Rattle.base.proofs.RangeLaws.{same-from, getD-listFrom}
 use Rattle.base.proofs.Tests.{not-both}
-use Rattle.lists.specs.Lists.{isLive, setLive}
+use Rattle.lists.specs.Lists.{isLive, setLive, liveNodes, missingNodes}
+use Rattle.lists.specs.Inner.{turnedRound}
 
 -- a live mark stays live
 pub set-keeps : (marks : List Bool) (i j : ℕ) → isLive marks j ≡ true → isLive (set marks i true) j ≡ true
@@ -44,3 +46,8 @@ listed-live marks (x ∷ list) j e h = go (ℕ-discrete j x) (λ g. listed-live 
     go : Dec (j ≡ x) → (isLive (set marks x true) j ≡ false → List·Memᴰ j list) → List·Memᴰ j (x ∷ list)
     go (yes q) later = List·Memᴰ·head q
     go (no n) later = List·Memᴰ·tail (later (getD-set-other marks x j true false n ∙ e))
+
+-- the nodes that are live in marks turned round are the missing ones
+pub turned-nodes : (marks : List Bool) (n : ℕ) → n ≤ 255 → liveNodes (turnedRound marks) n ≡ missingNodes marks n
+unfolding turnedRound
+turned-nodes marks n h = same-from _ _ 1 n (λ i l u. getD-listFrom (λ j. not (isLive marks j)) 256 i false (omega arith))

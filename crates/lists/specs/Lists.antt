@@ -60,3 +60,7 @@ liveOutside n marks = passesOutside n (isLive marks)
 -- the live nodes of 1 to n
 abbrev pub liveNodes : List Bool → ℕ → List ℕ
 liveNodes marks n = thoseFrom (isLive marks) 1 n
+
+-- the missing nodes of 1 to n
+abbrev pub missingNodes : List Bool → ℕ → List ℕ
+missingNodes marks n = thoseFrom (λ j. not (isLive marks j)) 1 n

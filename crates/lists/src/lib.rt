@@ -6,7 +6,8 @@ ghost use mathlib.Core.List.{_++_};
 ghost use Prim.Native.Nat.{_-_, _≤_};
 ghost use lib.ListN.{length, replicate};
 ghost use Rattle.checks.specs.Checks.{firstMet};
-ghost use Rattle.lists.specs.Lists.{someOutside, rises, listChecks, placeIn, noneLive, setLive, someMissing, liveOutside, liveNodes};
+ghost use Rattle.lists.specs.Inner.{turnedRound};
+ghost use Rattle.lists.specs.Lists.{someOutside, rises, listChecks, placeIn, noneLive, setLive, someMissing, liveOutside, liveNodes, missingNodes};
 
 // Whether a node number of the list is 0 or above n.
 pub fn some_outside(n: usize, list: &[u8]) -> bool
@@ -157,6 +158,19 @@ pub fn count_live(marks: &[bool; 256], n: usize) -> usize
     wide(count)
 }
 
+// The marks turned round: missing for live, and live for missing.
+fn turned(marks: &[bool; 256]) -> [bool; 256]
+    ensures { λ r. ⌜ r ≡ turnedRound (now (marks .entry)) ⌝ }
+{
+    let mut other = [false; 256];
+    let mut j: usize = 0;
+    while j < 256 {
+        other[j] = !marks[j];
+        j += 1;
+    }
+    other
+}
+
 // The live nodes of 1 to n, rising, and zeros after them.
 pub fn list_live(marks: &[bool; 256], n: usize) -> [u8; 256]
     requires { ⌜ n ≤ 255 ⌝ }
@@ -173,4 +187,13 @@ pub fn list_live(marks: &[bool; 256], n: usize) -> [u8; 256]
         }
     }
     list
+}
+
+// The missing nodes of 1 to n, rising, and zeros after them.
+pub fn list_missing(marks: &[bool; 256], n: usize) -> [u8; 256]
+    requires { ⌜ n ≤ 255 ⌝ }
+    ensures { λ r. ⌜ r ≡ missingNodes (now (marks .entry)) n ++ replicate (256 - length (missingNodes (now (marks .entry)) n)) 0 ⌝ }
+{
+    let other = turned(marks);
+    list_live(&other, n)
 }

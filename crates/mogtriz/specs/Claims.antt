@@ -19,7 +19,7 @@ use Rattle.boxes.specs.Box.{kIn, blockLengthIn, namesIn, bodyChecks, bodyOf}
 use Rattle.graded.specs.Order.{columnAt}
 use Rattle.conversion.specs.Converted.{fromGraded, toGraded, converted}
 use Rattle.conversion.specs.Claims.{boxLeft, BodiesBy}
-use Rattle.planning.specs.Pairs.{NoPairLeft}
+use Rattle.pairing.specs.Pairs.{NoPairLeft}
 use Rattle.planning.specs.Plan.{timesRead}
 use Rattle.leftover.specs.Open.{Open, OpenCount}
 use Rattle.waves.specs.Waves.{mostWaves}

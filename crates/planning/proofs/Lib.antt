@@ -1,9 +1,6 @@
-pub mod PairLaws
-pub mod WorthLaws
-pub mod SearchLaws
 pub mod Steps
-pub mod RoundLaws
 pub mod MakeLaws
+pub mod RoundLaws
 pub mod SourceLaws
 pub mod RepairedLaws
 pub mod PlanLaws

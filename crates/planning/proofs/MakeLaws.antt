@@ -5,7 +5,7 @@ use mathlib.Core.Bool.{Bool, true, false, cond, not}
 use mathlib.Core.List.{List, [], _∷_, _++_, map}
 use Prim.Native.Nat.{ℕ, zero, suc, _+_, _-_, _≤_, _<_}
 use native.Mathlib.Omega.{arith}
-use borrow.Author.Tests.{ltb-true, not-true}
+use borrow.Author.Tests.{lt-ltb, ltb-true, not-true}
 use lib.Dec.{ltb}
 use lib.ListN.{length, set, length-set}
 use lib.Seq.{getD-set-same, getD-set-other}
@@ -19,9 +19,9 @@ use Rattle.lists.specs.Lists.{isLive, setLive, liveNodes}
 use Rattle.lists.proofs.Laws.{length-setLive}
 use Rattle.lists.proofs.MarkLaws.{set-keeps}
 use Rattle.planning.specs.Claims.{CanMake, CanMakeAll}
-use Rattle.planning.specs.Pairs.{smallerNode}
+use Rattle.pairing.specs.Pairs.{smallerNode}
 use Rattle.planning.specs.Plan.{Step, isRepaired, stepOf, roundSteps, repairedNodes, marksAfter, nodesLeft}
-use Rattle.planning.proofs.PairLaws.{PairOf, pair-of}
+use Rattle.pairing.proofs.PairLaws.{PairOf, pair-of, pairs-are}
 
 -- ---- the marks after steps
 
@@ -45,6 +45,15 @@ module _ (f : Family) (k : ℕ) (marks : List Bool) (j : ℕ) (e : isRepaired f 
   unfolding isRepaired
   repaired-smaller = ltb-true 0 (smallerNode f k marks j) (and-right (not (isLive marks j)) (ltb 0 (smallerNode f k marks j)) e)
 
+-- a live node is not repaired, a missing one where it has a pair
+pub live-kept : (f : Family) (k : ℕ) (marks : List Bool) (j : ℕ) → isLive marks j ≡ true → isRepaired f k marks j ≡ false
+unfolding isRepaired
+live-kept f k marks j e = rw e
+
+pub pair-repairs : (f : Family) (k : ℕ) (marks : List Bool) (j : ℕ) → isLive marks j ≡ false → 1 ≤ smallerNode f k marks j → isRepaired f k marks j ≡ true
+unfolding isRepaired
+pair-repairs f k marks j e h = rw e (lt-ltb 0 (smallerNode f k marks j) h)
+
 module _ (f : Family) (k : ℕ) (range : KInRange f k) (marks : List Bool) (r : ℕ) where
   -- the marks once the steps below node j are made: none is lost, and from j on all are as when the round began
   record Upto (j : ℕ) (now : List Bool) : Type 0 where
@@ -64,7 +73,8 @@ module _ (f : Family) (k : ℕ) (range : KInRange f k) (marks : List Bool) (r : 
   step-makes : (j : ℕ) → IsNode f k j → (now : List Bool) → Upto j now → isRepaired f k marks j ≡ true → CanMake f k now (stepOf f k marks r j)
   step-makes j n now u e =
       let p : PairOf f k range marks j = pair-of f k range marks j (repaired-smaller f k marks j e) in
-      record {
+      rw (pairs-are f k range marks j (repaired-smaller f k marks j e))
+      (record {
         node = n;
         smaller = p .smaller;
         larger = p .larger;
@@ -72,7 +82,7 @@ module _ (f : Family) (k : ℕ) (range : KInRange f k) (marks : List Bool) (r : 
         missing = u .same j (omega arith) ∙ repaired-missing f k marks j e;
         smaller-live = u .kept (smallerNode f k marks j) (p .smaller-live);
         larger-live = u .kept _ (p .larger-live);
-      }
+      })
 
   steps-make : (j m : ℕ) → 1 ≤ j → j + m ≤ suc (nodeCount f k) → (now : List Bool) → Upto j now → CanMakeAll f k now (map (stepOf f k marks r) (thoseFrom (isRepaired f k marks) j m))
   unfolding thoseFrom

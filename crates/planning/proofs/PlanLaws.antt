@@ -15,7 +15,7 @@ use Rattle.families.specs.declared.Family.{Family}
 use Rattle.families.specs.Families.{KInRange, nodeCount}
 use Rattle.lists.specs.Lists.{isLive, setLive}
 use Rattle.planning.specs.Claims.{CanMakeAll}
-use Rattle.planning.specs.Pairs.{NoPairLeft}
+use Rattle.pairing.specs.Pairs.{NoPairLeft}
 use Rattle.planning.specs.Plan.{Step, isRepaired, stepOf, roundSteps, marksAfter, roundsFrom, nodesLeft}
 use Rattle.planning.proofs.MakeLaws.{length-marksAfter, can-make-append, round-makes, make-counts}
 use Rattle.planning.proofs.RepairedLaws.{pair-repaired}

@@ -13,10 +13,10 @@ use Rattle.families.specs.declared.Family.{Family}
 use Rattle.families.specs.Families.{KInRange, IsNode, nodeCount, areRelated}
 use Rattle.families.proofs.Laws.{related-differ, related-swap}
 use Rattle.lists.specs.Lists.{isLive}
-use Rattle.planning.specs.Pairs.{smallerNode, largerNode, LiveNode}
+use Rattle.pairing.specs.Pairs.{smallerNode, largerNode, LiveNode}
 use Rattle.planning.specs.Plan.{isRepaired}
-use Rattle.planning.proofs.MakeLaws.{repaired-smaller}
-use Rattle.planning.proofs.PairLaws.{PairOf, pair-of, hasLarger, pair-repairs}
+use Rattle.planning.proofs.MakeLaws.{repaired-smaller, pair-repairs}
+use Rattle.pairing.proofs.PairLaws.{PairOf, pair-of, hasLarger}
 
 -- two live nodes that are related to node j
 pub record LivePair (f : Family) (k : ℕ) (marks : List Bool) (j : ℕ) : Type 0 where

@@ -8,7 +8,7 @@ use Rattle.families.specs.declared.Family.{Family}
 use Rattle.families.specs.Families.{KInRange, IsNode, nodeCount, areRelated}
 use Rattle.lists.specs.Lists.{isLive}
 use Rattle.counts.specs.Counts.{countOf, countAll, sumOf}
-use Rattle.planning.specs.Pairs.{NoPairLeft}
+use Rattle.pairing.specs.Pairs.{NoPairLeft}
 use Rattle.planning.specs.Plan.{Step, roundSteps, sourcesOf, timesRead, marksAfter, roundsFrom, planOf, nodesLeft}
 
 -- a step that can be made: it names a missing node and two live nodes related to it

@@ -1,4 +1,3 @@
-pub mod Pairs
 pub mod Plan
 pub mod Made
 pub mod Claims

@@ -8,8 +8,8 @@ use lib.ListN.{length}
 use Rattle.base.specs.Ranges.{thoseFrom}
 use Rattle.families.specs.declared.Family.{Family}
 use Rattle.families.specs.Families.{nodeCount}
-use Rattle.lists.specs.Lists.{isLive, setLive}
-use Rattle.planning.specs.Pairs.{smallerNode, largerNode}
+use Rattle.lists.specs.Lists.{isLive, setLive, missingNodes}
+use Rattle.pairing.specs.Pairs.{smallerNode, pairsOf}
 
 -- a step of a plan: its round, the node that it repairs, and the pair
 pub record Step : Type 0 where
@@ -22,9 +22,9 @@ pub record Step : Type 0 where
 unfoldable pub isRepaired : Family → ℕ → List Bool → ℕ → Bool
 isRepaired f k marks j = not (isLive marks j) && ltb 0 (smallerNode f k marks j)
 
--- the step of round r that repairs node j
+-- the step of round r that repairs node j, from the pair that the search gives
 abbrev pub stepOf : Family → ℕ → List Bool → ℕ → ℕ → Step
-stepOf f k marks r j = let a = smallerNode f k marks j in record { round = r; node = j; smaller = a; larger = largerNode f k marks j a }
+stepOf f k marks r j = let pairs = pairsOf f k marks j in record { round = r; node = j; smaller = pairs .smaller; larger = pairs .larger }
 
 -- the steps of round r, from the marks when it begins: a step for each node that it repairs, rising
 abbrev pub roundSteps : Family → ℕ → List Bool → ℕ → List Step
@@ -79,4 +79,4 @@ lastRound steps = getLastD (map (λ (step : Step). step .round) steps) 0
 
 -- nodes left: how many of 1 to n are missing
 unfoldable pub nodesLeft : List Bool → ℕ → ℕ
-nodesLeft marks n = length (thoseFrom (λ j. not (isLive marks j)) 1 n)
+nodesLeft marks n = length (missingNodes marks n)

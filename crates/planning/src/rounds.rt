@@ -1,9 +1,9 @@
 // Rounds, and the plan.
 use crate::Planned;
-use crate::Repair;
-use crate::search::next_repair;
-use crate::worth::worth_trying;
 use families::Family;
+use pairing::Found;
+use pairing::count::count_missing;
+use pairing::search::find_next;
 ghost use mathlib.Core.Path.{_≡_};
 ghost use mathlib.Core.List.{[], _∷_, _++_};
 ghost use Prim.Native.Nat.{_+_, _*_, _≤_, _<_};
@@ -15,15 +15,15 @@ ghost use Rattle.planning.specs.Plan.{roundSteps, marksAfter, planOf, st
 ghost use Rattle.planning.specs.Inner.{plannedOf};
 
 // A step as its four bytes.
-fn put_step(out: &mut [u8], round: usize, repair: Repair)
+fn put_step(out: &mut [u8], round: usize, found: Found)
     requires { ⌜ length (now out) ≡ 4 ⌝ }
-    requires { ⌜ (round < 256) × (repair .node < 256) × (repair .smaller < 256) × (repair .larger < 256) ⌝ }
-    ensures { λ _. ⌜ now (out .exit) ≡ round ∷ repair .node ∷ repair .smaller ∷ repair .larger ∷ [] ⌝ }
+    requires { ⌜ (round < 256) × (found .node < 256) × (found .pairs .smaller < 256) × (found .pairs .larger < 256) ⌝ }
+    ensures { λ _. ⌜ now (out .exit) ≡ round ∷ found .node ∷ found .pairs .smaller ∷ found .pairs .larger ∷ [] ⌝ }
 {
     out[0] = round as u8;
-    out[1] = repair.node as u8;
-    out[2] = repair.smaller as u8;
-    out[3] = repair.larger as u8;
+    out[1] = found.node as u8;
+    out[2] = found.pairs.smaller as u8;
+    out[3] = found.pairs.larger as u8;
 }
 
 // The steps of a round, put into `out` from place `from` on, and their nodes live in `next`; `marks` are those when the round
@@ -51,17 +51,17 @@ fn plan_round(
         return 0;
     }
     let all = lists::list_live(marks, n);
-    let worth = worth_trying(family, k, columns, &all[..count]);
+    let counts = count_missing(family, k, columns, &all[..count], marks);
     let mut steps: usize = 0;
     let mut node: usize = 0;
     loop {
-        let repair = next_repair(family, k, columns, &all[..count], marks, &worth, node);
-        if repair.node == 0 {
+        let found = find_next(family, k, columns, &all[..count], marks, &counts, node);
+        if found.node == 0 {
             return steps;
         }
         let at = from + 4 * steps;
-        put_step(&mut out[at..at + 4], round, repair);
-        node = repair.node;
+        put_step(&mut out[at..at + 4], round, found);
+        node = found.node;
         next[node] = true;
         steps += 1;
     }

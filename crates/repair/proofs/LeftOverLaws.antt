@@ -18,7 +18,7 @@ use Rattle.lists.specs.Lists.{someOutside, noneLive, isLive, setLive, isIn}
 use Rattle.lists.proofs.Laws.{length-setLive, live-of-list}
 use Rattle.lists.proofs.MarkLaws.{live-keeps, live-append}
 use Rattle.planning.specs.Claims.{CanMake, CanMakeAll, PlanClaims}
-use Rattle.planning.specs.Pairs.{NoPairLeft}
+use Rattle.pairing.specs.Pairs.{NoPairLeft}
 use Rattle.planning.specs.Plan.{Step, planOf, repairedNodes, marksAfter, nodesLeft}
 use Rattle.planning.proofs.Proved.{plan-claim}
 use Rattle.leftover.specs.Open.{OpenCount}

@@ -11,7 +11,7 @@ use Rattle.lists.specs.Lists.{noneLive, isLive, setLive, isIn}
 use Rattle.lists.proofs.MarkLaws.{live-append}
 use Rattle.planning.specs.Claims.{CanMakeAll}
 use Rattle.planning.specs.Plan.{Step, repairedNodes, marksAfter, nodesLeft}
-use Rattle.planning.specs.Pairs.{NoPairLeft}
+use Rattle.pairing.specs.Pairs.{NoPairLeft}
 use Rattle.leftover.specs.Open.{OpenCount}
 use Rattle.leftover.proofs.Reached.{Ended}
 use Rattle.leftover.proofs.Missing.{missing-is-open}

@@ -28,7 +28,7 @@ use Rattle.lists.specs.Lists.{isLive, setLive}
 use Rattle.lists.proofs.MarkLaws.{set-keeps, live-keeps}
 use Rattle.planning.specs.Claims.{CanMakeAll}
 use Rattle.planning.specs.Made.{mended, nodesMade}
-use Rattle.planning.specs.Pairs.{NoPairLeft}
+use Rattle.pairing.specs.Pairs.{NoPairLeft}
 use Rattle.planning.specs.Plan.{Step, repairedNodes, sourcesOf, lastRound, nodesLeft}
 use Rattle.planning.proofs.CarryLaws.{length-mended}
 use Rattle.planning.proofs.Proved.{plan-claim}

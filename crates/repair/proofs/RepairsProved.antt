@@ -11,7 +11,7 @@ use Rattle.checks.specs.Checks.{firstMet}
 use Rattle.checks.proofs.AnswerLaws.{answer-either}
 use Rattle.lists.specs.Lists.{isLive}
 use Rattle.lists.proofs.Laws.{length-setLive}
-use Rattle.planning.specs.Pairs.{NoPairLeft}
+use Rattle.pairing.specs.Pairs.{NoPairLeft}
 use Rattle.planning.specs.Plan.{Step, repairedNodes, marksAfter, lastRound, nodesLeft}
 use Rattle.planning.proofs.CarryLaws.{steps-back}
 use Rattle.planning.proofs.Proved.{plan-claim}

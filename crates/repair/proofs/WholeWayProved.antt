@@ -23,7 +23,7 @@ use Rattle.lists.specs.Lists.{isLive, someMissing, isIn}
 use Rattle.lists.proofs.Laws.{outside-none}
 use Rattle.boxes.specs.Box.{familyIn, kIn, blockLengthIn, namesIn, nodeCountIn, boxChecks}
 use Rattle.boxes.proofs.Laws.{FieldsOf, fields-of}
-use Rattle.planning.specs.Pairs.{NoPairLeft}
+use Rattle.pairing.specs.Pairs.{NoPairLeft}
 use Rattle.planning.specs.Plan.{Step}
 use Rattle.leftover.specs.Open.{Open}
 use Rattle.readout.specs.DataBlocks.{dataNode, missingBlock}

@@ -6,7 +6,7 @@ use mathlib.Core.Logic.{_↔_}
 use Prim.Native.Nat.{ℕ, _≤_, _<_}
 use Rattle.families.specs.Families.{familyOf, IsNode}
 use Rattle.lists.specs.Lists.{isIn, isLive}
-use Rattle.planning.specs.Pairs.{NoPairLeft}
+use Rattle.pairing.specs.Pairs.{NoPairLeft}
 use Rattle.leftover.specs.Open.{Open, OpenCount}
 use Rattle.repair.specs.declared.Session.{Session}
 use Rattle.repair.specs.Session.{started}

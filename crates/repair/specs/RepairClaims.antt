@@ -11,7 +11,7 @@ use Rattle.blocks.specs.Blocks.{blockOf}
 use Rattle.encoding.specs.Matrix.{nodeBlock}
 use Rattle.lists.specs.Lists.{someOutside, rises, isLive, someMissing}
 use Rattle.planning.specs.Claims.{CanMake}
-use Rattle.planning.specs.Pairs.{NoPairLeft}
+use Rattle.pairing.specs.Pairs.{NoPairLeft}
 use Rattle.planning.specs.Plan.{Step, wavesOf}
 use Rattle.planning.specs.Made.{stepsIn}
 use Rattle.waves.specs.Waves.{mostWaves}

@@ -18,7 +18,7 @@ use Rattle.families.specs.Inner.{unit}
 use Rattle.families.proofs.EdgeLaws.{both, both-through, joined, smaller-within, column-both}
 use Rattle.families.proofs.PairLaws.{PairOf, pair-of}
 use Rattle.encoding.proofs.EndLaws.{ends, ends-xor, ends-both, ends-none, ends-no, Has, has, other-end}
-use Rattle.planning.specs.Pairs.{LiveNode}
+use Rattle.pairing.specs.Pairs.{LiveNode}
 use Rattle.waves.specs.Waves.{SumOf}
 use Rattle.waves.proofs.Sums.{sum-more, sum-is, sum-none, sum-one, sum-join}
 use Rattle.waves.proofs.Halves.{Halving}

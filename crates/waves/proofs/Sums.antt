@@ -14,7 +14,7 @@ use Rattle.families.specs.declared.Family.{Family}
 use Rattle.families.specs.Families.{KInRange, columnOf}
 use Rattle.families.proofs.Laws.{Known, nothing, of-node, column}
 use Rattle.lists.specs.Lists.{isLive}
-use Rattle.planning.specs.Pairs.{LiveNode}
+use Rattle.pairing.specs.Pairs.{LiveNode}
 use Rattle.waves.specs.Waves.{SumOf}
 
 -- two sums, of m and n nodes, whose XOR is c

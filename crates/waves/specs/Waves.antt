@@ -11,7 +11,7 @@ use Rattle.base.specs.Numbers.{Each, xorOf}
 use Rattle.families.specs.declared.Family.{Family}
 use Rattle.families.specs.Families.{KInRange, IsNode, columnOf}
 use Rattle.lists.specs.Lists.{isLive}
-use Rattle.planning.specs.Pairs.{LiveNode}
+use Rattle.pairing.specs.Pairs.{LiveNode}
 use Rattle.planning.specs.Plan.{RepairedIn, marksAfter, wavesOf, lastRound}
 
 -- c is the XOR of the columns of at most m live nodes

@@ -3,29 +3,31 @@
 -- Assumes nothing.
 use mathlib.Core.Path.{_≡_, refl, sym, _∙_}
 use mathlib.Core.List.{flatMap}
-use Prim.Native.Nat.{_+_, _-_, _*_, _≤_}
+use Prim.Native.Nat.{suc, _+_, _-_, _*_, _≤_}
 use native.Mathlib.Nat.{add-sub-cancel-left}
 use native.Mathlib.Omega.{arith}
 use denote.Ref.{now}
 use borrow.Author.Needs.{needs}
-use lib.ListN.{take, length-take, take-append-drop}
-use lib.Seq.{take-at}
+use lib.ListN.{length, take, length-take, take-append-drop}
+use Rattle.base.specs.Ranges.{firstFrom}
 use Rattle.blocks.proofs.PartLaws.{length-mid}
 use Rattle.families.specs.Families.{nodeCount}
 use Rattle.families.proofs.Laws.{few}
-use Rattle.lists.specs.Lists.{liveNodes, setLive}
-use Rattle.lists.proofs.Laws.{live-nodes-inside}
-use Rattle.planning.specs.Plan.{stepBytes}
-use Rattle.planning.specs.Inner.{RoundBegins, worthTrying}
-use Rattle.planning.proofs.RoundLaws.{all-live, InRound, Next, next-none, next-some, round-none, round-some, round-room, round-more, round-done}
+use Rattle.lists.specs.Lists.{missingNodes, liveNodes, setLive}
+use Rattle.lists.proofs.Laws.{live-nodes-few}
+use Rattle.planning.specs.Plan.{isRepaired, stepBytes}
+use Rattle.pairing.specs.Inner.{SearchBegins, foundAt}
+use Rattle.pairing.proofs.ListedLaws.{listed, fits-in}
+use Rattle.pairing.proofs.EachLaws.{own-counts}
+use Rattle.planning.proofs.RoundLaws.{all-live, missingCounts, found-repaired, InRound, Next, next-none, next-some, round-none, round-some, round-room, round-more, round-done}
 use Rattle.planning.proofs.rounds.plan_round.Statement.{statement}
 use Rattle.planning.proofs.rounds.plan_round.Tie as tie
 
 abbrev Inv-loop : tie.InvT-loop
-Inv-loop family k columns marks round out₀ from next₀ n count all worth steps₀ node₀ out next steps node = RoundBegins family k columns (take count all) marks × (worth ≡ worthTrying family k (take count all)) × InRound family k marks round out₀ from next₀ out next steps node
+Inv-loop family k columns marks round out₀ from next₀ n count all counts steps₀ node₀ out next steps node = SearchBegins family k columns (take count all) marks × (counts ≡ missingCounts family k marks) × InRound family k marks round out₀ from next₀ out next steps node
 
 abbrev μ-loop : tie.MeasureT-loop
-μ-loop family k columns marks round out₀ from next₀ n count all worth steps₀ node₀ out next steps node = n - node
+μ-loop family k columns marks round out₀ from next₀ n count all counts steps₀ node₀ out next steps node = n - node
 
 -- a place of the code, which `search` finds by its type
 abbrev Place : (tie.InvT-loop → tie.MeasureT-loop → Type 0) → Type 0
@@ -51,38 +53,53 @@ returns c =
 list-live-requires : tie.Need-list-live-requires Inv-loop μ-loop
 list-live-requires c κs = let n : Place tie.After-node-count = search in omega (arith, n .node-count .ensures, node-few (search))
 
+-- how many nodes are live
+counted : (c : Place tie.After-count-live) → let g = c .before .before .before .args in c .count-live .result ≡ length (liveNodes (now (g .marks)) (nodeCount (g .family) (g .k)))
+counted c = let n : Place tie.After-node-count = search in c .count-live .ensures ∙ rw (n .node-count .ensures)
+
 -- the live nodes, without the zeros after them
 live-list : (c : Place tie.After-list-live) → let l = c .before .before in let g = l .before .before .before .args in take (l .count-live .result) (c .list-live .result) ≡ liveNodes (now (g .marks)) (nodeCount (g .family) (g .k))
 live-list c =
     let n : Place tie.After-node-count = search in
     let l : Place tie.After-count-live = search in
-    rw (c .list-live .ensures, l .count-live .ensures, n .node-count .ensures) (take-at _ _ _ refl)
+    listed (l .count-live .result) (c .list-live .result) _ (counted l) (rw (n .node-count .ensures) at (c .list-live .ensures))
 
-array-share-prefix-all : tie.Need-array-share-prefix-all Inv-loop μ-loop
-array-share-prefix-all c =
-    let n : Place tie.After-node-count = search in
-    let l : Place tie.After-count-live = search in
-    omega (arith, rw (live-list c) at (length-take (l .count-live .result) (c .list-live .result)), rw (n .node-count .ensures) at (l .count-live .ensures))
+live-fits : (c : Place tie.After-list-live) → c .before .before .count-live .result ≤ length (c .list-live .result)
+live-fits c = let l : Place tie.After-count-live = search in fits-in (l .count-live .result) (c .list-live .result) _ (counted l) (live-list c)
 
-worth-trying-requires : tie.Need-worth-trying-requires Inv-loop μ-loop
-worth-trying-requires c κs = let e : Place tie.Start = search in (search, rw (live-list (search)) (live-nodes-inside (now (e .args .marks)) _))
+begins : (c : Place tie.After-list-live) → let l = c .before .before in let g = l .before .before .before .args in SearchBegins (g .family) (g .k) (now (g .columns)) (take (l .count-live .result) (c .list-live .result)) (now (g .marks))
+begins c = record { range = search; table = search; nodes = live-list c }
 
 loop-holds : tie.Need-loop-holds Inv-loop μ-loop
-loop-holds c = (record { range = search; table = search; nodes = live-list (search) }, search, round-none (search))
+loop-holds c =
+    let q : Place tie.After-count-missing = search in
+    (begins (search), q .count-missing .ensures, round-none (search))
 
-next-repair-requires : tie.Need-next-repair-requires Inv-loop μ-loop
-next-repair-requires c κs = (search needs, (search needs, search needs))
+find-next-requires : tie.Need-find-next-requires Inv-loop μ-loop
+find-next-requires c κs =
+    let e : Place tie.Start = search in
+    let t : Place tie.At-loop = search in
+    let b = t .loop .inv in
+    (b .0, ((λ j n. rw (b .1) (own-counts (e .args .family) (e .args .k) (now (e .args .marks)) _ j (omega (arith, n .last, node-few e)))), b .2 .within))
+
+-- what the search gives, as the round's next repair
+next-found : (r : Place tie.After-find-next) → let t = r .before .before .before in let g = t .before .before .before .before .before .before .before .before .args in
+    r .find-next .result ≡ foundAt (g .family) (g .k) (now (g .marks)) (firstFrom (isRepaired (g .family) (g .k) (now (g .marks))) (suc (t .loop .node)) (nodeCount (g .family) (g .k) - t .loop .node))
+next-found r =
+    let e : Place tie.Start = search in
+    let t : Place tie.At-loop = search in
+    let b = t .loop .inv in
+    r .find-next .ensures ∙ rw (b .1, found-repaired _ _ (b .0 .range) (now (e .args .marks)) (t .loop .node) (b .2 .within))
 
 returns-2 : tie.Need-returns-2 Inv-loop μ-loop
 returns-2 c =
     let t : Place tie.At-loop = search in
-    let r : Place tie.After-next-repair = search in
     let w = t .loop .inv .2 in
-    rw (round-done w (next-none _ _ _ _ _ _ (r .next-repair .ensures) (c .if2 .taken))) (w .count, (w .bytes, w .marked))
+    rw (round-done w (next-none _ _ _ _ _ _ (next-found (search)) (c .if2 .taken))) (w .count, (w .bytes, w .marked))
 
 -- the repair that was found
-found : (c : Place tie.Else2) → let r = c .before .before in let t = r .before .before .before in let g = t .before .before .before .before .before .before .before .before .args in Next (g .family) (g .k) (now (g .marks)) (g .round) (t .loop .node) (r .next-repair .result)
-found c = next-some _ _ _ _ _ _ (search) (search) (search) (c .if2 .left)
+found : (c : Place tie.Else2) → let r = c .before .before in let t = r .before .before .before in let g = t .before .before .before .before .before .before .before .before .args in Next (g .family) (g .k) (now (g .marks)) (g .round) (t .loop .node) (r .find-next .result)
+found c = let t : Place tie.At-loop = search in next-some _ _ _ _ _ _ (next-found (search)) (t .loop .inv .0 .range) (t .loop .inv .2 .within) (c .if2 .left)
 
 part-put-step-end : tie.Need-part-put-step-end Inv-loop μ-loop
 part-put-step-end c = let t : Place tie.At-loop = search in round-room (t .loop .inv .2) _ (found (search))
@@ -129,13 +146,13 @@ plan-round-spec =
     count-live-requires
     returns
     list-live-requires
-    array-share-prefix-all
-    (λ c. rw length-take (omega (arith, array-share-prefix-all (search))))
-    worth-trying-requires
+    (λ c. live-fits (search))
+    (λ c. rw length-take (omega (arith, live-fits (search))))
+    (λ c κs. begins (search))
     loop-holds
-    (λ c. array-share-prefix-all (search))
-    (λ c. rw length-take (omega (arith, array-share-prefix-all (search))))
-    next-repair-requires
+    (λ c. live-fits (search))
+    (λ c. rw length-take (omega (arith, live-fits (search))))
+    find-next-requires
     (λ c. search)
     returns-2
     (λ c. omega (arith, add-put-step (search)))

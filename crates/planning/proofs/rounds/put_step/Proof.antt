@@ -8,7 +8,7 @@ use Rattle.planning.proofs.rounds.put_step.Tie as tie
 returns : tie.Need-returns
 returns c =
     let g = c .before .before .before .args in
-    four-set (g .out .now) (g .round) (g .repair .node) (g .repair .smaller) (g .repair .larger) (c .before .before .before .pre .0)
+    four-set (g .out .now) (g .round) (g .found .node) (g .found .pairs .smaller) (g .found .pairs .larger) (c .before .before .before .pre .0)
 
 pub put-step-spec : {M : Type 1} → statement M
 put-step-spec =

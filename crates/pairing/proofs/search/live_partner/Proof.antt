@@ -7,9 +7,9 @@ use denote.Ref.{now}
 use borrow.Author.Tests.{not-true, not-false}
 use Rattle.families.proofs.Laws.{few, column}
 use Rattle.families.proofs.TableLaws.{table-at}
-use Rattle.planning.proofs.PairLaws.{partner, partner-at, third-few, live-none, live-is}
-use Rattle.planning.proofs.search.live_partner.Statement.{statement}
-use Rattle.planning.proofs.search.live_partner.Tie as tie
+use Rattle.pairing.proofs.PairLaws.{partner, partner-at, third-few, live-none, live-is}
+use Rattle.pairing.proofs.search.live_partner.Statement.{statement}
+use Rattle.pairing.proofs.search.live_partner.Tie as tie
 
 few-nodes : (e : tie.Start) → (e .args .j ≤ 255) × (e .args .a ≤ 255)
 few-nodes e = let f = few _ _ (e .pre .0 .0) in (omega (arith, e .pre .0 .1 .last), omega (arith, e .pre .0 .2 .last))

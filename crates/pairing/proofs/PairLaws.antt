@@ -2,14 +2,14 @@
 -- live nodes.
 -- Assumes nothing.
 use mathlib.Core.Path.{_≡_, refl, sym, ap, _∙_}
-use mathlib.Core.Bool.{Bool, true, false, cond, not, _&&_}
+use mathlib.Core.Bool.{Bool, true, false, cond, _&&_}
 use mathlib.Core.List.{List, [], _∷_}
 use Prim.Native.Nat.{ℕ, zero, suc, _+_, _-_, _≤_, _<_}
 use mathlib.Core.Logic.{_⊎_, inl, inr}
 use native.Mathlib.Nat.{eq-zero-or-pos}
 use native.Mathlib.Numerals.{add-one}
 use native.Mathlib.Omega.{arith}
-use borrow.Author.Tests.{lt-ltb, ltb-true, eqb-true, eq-eqb}
+use borrow.Author.Tests.{lt-ltb, ltb-true, eqb-true, eq-eqb, ne-eqb}
 use lib.Bits.{bitXor}
 use lib.Dec.{ltb}
 use lib.ListN.{length, getD, drop, drop-of-length-le}
@@ -24,9 +24,8 @@ use Rattle.base.proofs.First.{first-of, first-none, first-least, found}
 use Rattle.families.proofs.Laws.{few, node-is, node-of, related-differ, related-turn, related-swap}
 use Rattle.families.proofs.TableLaws.{table-at}
 use Rattle.lists.specs.Lists.{isLive, liveNodes}
-use Rattle.planning.specs.Pairs.{largerNode, smallerNode}
-use Rattle.planning.specs.Plan.{isRepaired}
-use Rattle.planning.specs.Inner.{thirdNode, livePartner, nextNode}
+use Rattle.pairing.specs.Pairs.{largerNode, smallerNode, pairCount, pairsOf}
+use Rattle.pairing.specs.Inner.{thirdNode, livePartner}
 
 -- ---- the node related to two others
 
@@ -49,7 +48,7 @@ module _ (f : Family) (k : ℕ) (r : KInRange f k) (marks : List Bool) (j a : �
       → b ≡ nodeOf f k (bitXor (getD columns j 0) (getD columns a 0)) → b ≡ partner
   partner-at nj na e g = g ∙ rw (e, table-at f k j r nj, table-at f k a r na)
 
-  related-partner : (b : ℕ) → IsNode f k b → areRelated f k a b j ≡ true → partner ≡ b
+  pub related-partner : (b : ℕ) → IsNode f k b → areRelated f k a b j ≡ true → partner ≡ b
   unfolding areRelated
   related-partner b nb h =
       let t = related-turn f k b j a (related-turn f k a b j h) in
@@ -253,39 +252,27 @@ module _ (f : Family) (k : ℕ) (r : KInRange f k) (marks : List Bool) (j : ℕ)
         related = l .related;
       }
 
--- ---- the next node of a round
+  -- what the search gives of it
+  pub pairs-are : 1 ≤ small → pairsOf f k marks j ≡ record { smaller = small; larger = large; count = pairCount f k marks j }
+  unfolding pairsOf
+  pairs-are h = rw (ne-eqb small 0 (λ z. omega arith))
 
-module _ (f : Family) (k : ℕ) (marks : List Bool) (j : ℕ) (h : j < nodeCount f k) where
-  left : nodeCount f k - j ≡ suc (nodeCount f k - (j + 1))
-  left = omega arith
+-- ---- the next number that passes a test
 
-  pub next-skip : isRepaired f k marks (j + 1) ≡ false → nextNode f k marks j ≡ nextNode f k marks (j + 1)
+module _ (test : ℕ → Bool) (n j : ℕ) where
+  left : j < n → n - j ≡ suc (n - (j + 1))
+  left h = omega arith
+
+  pub next-skip : j < n → test (j + 1) ≡ false → firstFrom test (suc j) (n - j) ≡ firstFrom test (suc (j + 1)) (n - (j + 1))
   unfolding firstFrom
-  next-skip e = ap (firstFrom (isRepaired f k marks) (suc j)) left ∙ rw (← add-one j, e)
+  next-skip h e = ap (firstFrom test (suc j)) (left h) ∙ rw (← add-one j, e)
 
-  pub next-is : isRepaired f k marks (j + 1) ≡ true → nextNode f k marks j ≡ j + 1
+  pub next-is : j < n → test (j + 1) ≡ true → firstFrom test (suc j) (n - j) ≡ j + 1
   unfolding firstFrom
-  next-is e = ap (firstFrom (isRepaired f k marks) (suc j)) left ∙ rw (← add-one j, e)
+  next-is h e = ap (firstFrom test (suc j)) (left h) ∙ rw (← add-one j, e)
 
-pub next-end : (f : Family) (k : ℕ) (marks : List Bool) (j : ℕ) → nodeCount f k ≤ j → nextNode f k marks j ≡ 0
-unfolding firstFrom
-next-end f k marks j h =
-    let e : nodeCount f k - j ≡ 0 = omega arith in
-    ap (firstFrom (isRepaired f k marks) (suc j)) e
-
--- a live node is not repaired, a missing one where it has a pair
-pub live-kept : (f : Family) (k : ℕ) (marks : List Bool) (j : ℕ) → isLive marks j ≡ true → isRepaired f k marks j ≡ false
-unfolding isRepaired
-live-kept f k marks j e = rw e
-
-pub pair-repairs : (f : Family) (k : ℕ) (marks : List Bool) (j : ℕ) → isLive marks j ≡ false → 1 ≤ smallerNode f k marks j → isRepaired f k marks j ≡ true
-unfolding isRepaired
-pair-repairs f k marks j e h = rw e (lt-ltb 0 (smallerNode f k marks j) h)
-
-pub none-kept : (f : Family) (k : ℕ) (marks : List Bool) (j : ℕ) → smallerNode f k marks j ≡ 0 → isRepaired f k marks j ≡ false
-unfolding isRepaired
-none-kept f k marks j e = rw e (last (not (isLive marks j)))
-  where
-    last : (b : Bool) → (b && false) ≡ false
-    last true = refl
-    last false = refl
+  pub next-end : n ≤ j → firstFrom test (suc j) (n - j) ≡ 0
+  unfolding firstFrom
+  next-end h =
+      let e : n - j ≡ 0 = omega arith in
+      ap (firstFrom test (suc j)) e

@@ -1,0 +1,12 @@
+pub mod Thirds
+pub mod Degrees
+pub mod EdgeThirds
+pub mod MostLaws
+pub mod PairLaws
+pub mod CountLaws
+pub mod NoneLaws
+pub mod TableLaws
+pub mod EachLaws
+pub mod ListedLaws
+pub mod OneLaws
+pub mod SearchLaws

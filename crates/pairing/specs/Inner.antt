@@ -1,0 +1,58 @@
+-- For inner functions: third nodes, what a search goes by, the counts that it is handed, and what it finds.
+use mathlib.Core.Path.{_≡_}
+use mathlib.Core.Bool.{Bool, cond}
+use mathlib.Core.List.{List, [], _∷_, _++_, map}
+use mathlib.Core.Logic.{_⊎_}
+use Prim.Native.Nat.{ℕ, suc, _-_}
+use lib.Bits.{bitXor}
+use lib.Dec.{eqb, ltb}
+use lib.ListN.{set}
+use Rattle.base.specs.Ranges.{firstFrom}
+use Rattle.families.specs.declared.Family.{Family}
+use Rattle.families.specs.Families.{KInRange, IsNode, nodeCount, columnOf, nodeOf}
+use Rattle.families.specs.Inner.{columnTable}
+use Rattle.lists.specs.Lists.{isLive, liveNodes}
+use Rattle.counts.specs.Counts.{countOf, sumOf}
+use Rattle.pairing.specs.Pairs.{pairCount, pairsOf}
+use Rattle.pairing.specs.declared.Found.{Found}
+
+-- the node related to two others; 0 where there is none
+abbrev pub thirdNode : Family → ℕ → ℕ → ℕ → ℕ
+thirdNode f k a b = nodeOf f k (bitXor (columnOf f k a) (columnOf f k b))
+
+-- that of a and j, where it is live; 0 where there is none
+unfoldable pub livePartner : Family → ℕ → List Bool → ℕ → ℕ → ℕ
+livePartner f k marks j a = cond (isLive marks (thirdNode f k j a)) (thirdNode f k j a) 0
+
+-- the nodes related to two of a list, and 0 where two have none
+unfoldable pub thirds : Family → ℕ → List ℕ → List ℕ
+thirds f k [] = []
+thirds f k (a ∷ list) = map (thirdNode f k a) list ++ thirds f k list
+
+-- how many of a list have a third node with j
+abbrev pub withThird : Family → ℕ → List ℕ → ℕ → ℕ
+withThird f k list j = sumOf (map (λ a. cond (ltb 0 (thirdNode f k j a)) 1 0) list)
+
+-- what a search goes by: the columns by node number, and the live nodes
+pub record SearchBegins (f : Family) (k : ℕ) (columns live : List ℕ) (marks : List Bool) : Type 0 where
+  pub range : KInRange f k
+  pub table : columns ≡ columnTable f k
+  pub nodes : live ≡ liveNodes marks (nodeCount f k)
+
+-- counts in which each node of a list has its own
+unfoldable pub countEach : Family → ℕ → List Bool → List ℕ → List ℕ → List ℕ
+countEach f k marks counts [] = counts
+countEach f k marks counts (j ∷ list) = countEach f k marks (set counts j (pairCount f k marks j)) list
+
+-- each count is 0 or the node's own
+abbrev pub OwnCounts : Family → ℕ → List Bool → List ℕ → Type 0
+OwnCounts f k marks counts = (j : ℕ) → IsNode f k j → (countOf counts j ≡ 0) ⊎ (countOf counts j ≡ pairCount f k marks j)
+
+-- the first node above another one whose count is not 0; 0 where there is none
+abbrev pub nextCounted : List ℕ → ℕ → ℕ → ℕ
+nextCounted counts n after = firstFrom (λ j. ltb 0 (countOf counts j)) (suc after) (n - after)
+
+-- a node and its pairs; zeros for node 0
+unfoldable pub foundAt : Family → ℕ → List Bool → ℕ → Found
+foundAt f k marks j =
+    cond (eqb j 0) (record { node = 0; pairs = record { smaller = 0; larger = 0; count = 0 } }) (record { node = j; pairs = pairsOf f k marks j })

@@ -1,0 +1,110 @@
+// The search for a pair.
+use crate::Found;
+use crate::Pairs;
+use crate::count::count_alone;
+use base::wide;
+use families::Family;
+ghost use mathlib.Core.Path.{_≡_};
+ghost use Prim.Native.Nat.{_≤_};
+ghost use Rattle.families.specs.Families.{KInRange, IsNode, nodeCount};
+ghost use Rattle.families.specs.Inner.{columnTable};
+ghost use Rattle.pairing.specs.Pairs.{pairsOf};
+ghost use Rattle.pairing.specs.Inner.{livePartner, SearchBegins, OwnCounts, nextCounted, foundAt};
+
+struct Pair {
+    smaller: usize,
+    larger: usize,
+}
+
+// The node related to a and j, where it is live, or 0. Whether it is above a need not be asked: first members go upward, and a
+// live node below a with a as its partner would have been found before.
+fn live_partner(
+    family: Family,
+    k: usize,
+    columns: &[usize; 256],
+    marks: &[bool; 256],
+    j: usize,
+    a: usize,
+) -> usize
+    requires { ⌜ KInRange family k × IsNode family k j × IsNode family k a ⌝ }
+    requires { ⌜ now columns ≡ columnTable family k ⌝ }
+    ensures { λ r. ⌜ r ≡ livePartner family k (now (marks .entry)) j a ⌝ }
+{
+    let b = families::third_node(family, k, columns[j], columns[a]);
+    if !marks[b] {
+        return 0;
+    }
+    b
+}
+
+// The first node above `after` whose count is not 0, with its pair and that count: how many related pairs of it are both live. `live`
+// lists the live nodes of the marks: the first members, upward.
+pub fn find_next(
+    family: Family,
+    k: usize,
+    columns: &[usize; 256],
+    live: &[u8],
+    marks: &[bool; 256],
+    counts: &[u16; 256],
+    after: usize,
+) -> Found
+    requires { ⌜ SearchBegins family k (now columns) (now live) (now marks) ⌝ }
+    requires { ⌜ OwnCounts family k (now marks) (now counts) ⌝ }
+    requires { ⌜ after ≤ nodeCount family k ⌝ }
+    ensures { λ r. ⌜ r ≡ foundAt family k (now (marks .entry)) (nextCounted (now (counts .entry)) (nodeCount family k) after) ⌝ }
+{
+    let n = families::node_count(family, k);
+    let mut node = after;
+    'walk: while node < n {
+        node += 1;
+        let count = counts::wide(counts[node]);
+        if count == 0 {
+            continue 'walk;
+        }
+        let mut i: usize = 0;
+        let pair = 'search: loop {
+            if live.len() <= i {
+                continue 'walk;
+            }
+            let a = wide(live[i]);
+            let b = live_partner(family, k, columns, marks, node, a);
+            if b != 0 {
+                break 'search Pair {
+                    smaller: a,
+                    larger: b,
+                };
+            }
+            i += 1;
+        };
+        return Found {
+            node: node,
+            pairs: Pairs {
+                smaller: pair.smaller,
+                larger: pair.larger,
+                count: count,
+            },
+        };
+    }
+    Found {
+        node: 0,
+        pairs: Pairs {
+            smaller: 0,
+            larger: 0,
+            count: 0,
+        },
+    }
+}
+
+// The search by itself, for one node, live or missing: the walk in which that node alone is counted.
+pub fn pairs_of(family: Family, k: usize, marks: [bool; 256], j: usize) -> Pairs
+    requires { ⌜ KInRange family k × IsNode family k j ⌝ }
+    ensures { λ r. ⌜ r ≡ pairsOf family k marks j ⌝ }
+{
+    let n = families::node_count(family, k);
+    let columns = families::columns(family, k);
+    let count = lists::count_live(&marks, n);
+    let all = lists::list_live(&marks, n);
+    let counts = count_alone(family, k, &columns, &all[..count], &marks, j);
+    let found = find_next(family, k, &columns, &all[..count], &marks, &counts, j - 1);
+    found.pairs
+}
