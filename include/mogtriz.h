@@ -239,6 +239,18 @@ typedef struct {
     mogtriz_session session;
 } mogtriz_read_out_answer;
 
+/*
+ * What looking for the pairs of a node gives: 0 with the least pair, the smaller number first, and how many there are, all of them 0
+ * where there is none; or the refusal's number and zeros. The session as it was handed in.
+ */
+typedef struct {
+    uint8_t refusal;
+    size_t smaller;
+    size_t larger;
+    size_t count;
+    mogtriz_session session;
+} mogtriz_pairs_found;
+
 /* What a step gives: 0 and the next session, or the refusal's number and the session as it was handed in. */
 typedef struct {
     uint8_t refusal;
@@ -345,6 +357,15 @@ MOGTRIZ_CALL mogtriz_written mogtriz_live_nodes(mogtriz_session session, uint8_t
  */
 MOGTRIZ_CALL mogtriz_read_out_answer mogtriz_read_out(mogtriz_session session, const uint8_t *nodes, size_t nodes_len,
                                                       uint8_t *object, size_t object_len);
+
+/*
+ * The pairs that a node, live or missing, can be had from: two live nodes that are related to it, whose blocks' XOR is its block. Given
+ * are the pair whose smaller number is least, and `count`, how many pairs there are; no block is read. A live node can so be read
+ * through a pair while its own drive rests. Of the missing nodes, those with a count above 0 are repaired in round 1 of a plan, each
+ * from the pair given here, and no others are. With all nodes live the count is (n - 1) / 2 in simplex, k - 1 in weight-two and 6 in the
+ * tetrahedron, and it is never more; it is 0 exactly where there is no pair. Gives 0 or: 13, 4 where the node is 0 or above n.
+ */
+MOGTRIZ_ANSWERS mogtriz_pairs_found mogtriz_pairs(mogtriz_session session, size_t node);
 
 /*
  * One repair, from two nodes that the caller names: the node's block becomes the XOR of theirs, and it becomes live. `steps` of the

@@ -213,6 +213,36 @@ static void call_read_out(void)
     EXPECT(out.refusal == MOGTRIZ_REFUSED_BLOCK_MISSING && out.block == 2 && same_session(out.session, session));
 }
 
+static int found_is(mogtriz_pairs_found found, uint8_t refusal, size_t smaller, size_t larger, size_t count)
+{
+    return found.refusal == refusal && found.smaller == smaller && found.larger == larger && found.count == count;
+}
+
+/* The pairs of a node, live or missing: with nodes 4, 5 and 7 live, and with all. */
+static void call_pairs(void)
+{
+    const mogtriz_session three = three_live(), all = mogtriz_start(MOGTRIZ_SIMPLEX, K, LEN, all_nodes, N).session;
+    EXPECT(found_is(mogtriz_pairs(three, 1), MOGTRIZ_SERVED, 4, 5, 1));
+    EXPECT(found_is(mogtriz_pairs(three, 2), MOGTRIZ_SERVED, 5, 7, 1));
+    EXPECT(found_is(mogtriz_pairs(three, 6), MOGTRIZ_SERVED, 0, 0, 0));
+    EXPECT(found_is(mogtriz_pairs(three, 7), MOGTRIZ_SERVED, 0, 0, 0));
+    /* node 6 is related to 1 and 7, 2 and 4, 3 and 5 */
+    EXPECT(found_is(mogtriz_pairs(all, 6), MOGTRIZ_SERVED, 1, 7, 3));
+    EXPECT(same_session(mogtriz_pairs(three, 1).session, three) && same_session(mogtriz_pairs(three, 7).session, three));
+
+    /* the session is looked at before the node */
+    mogtriz_session no_mark = three;
+    no_mark.live[6] = 2;
+    EXPECT(found_is(mogtriz_pairs(no_mark, 1), MOGTRIZ_REFUSED_NO_SUCH_SESSION, 0, 0, 0));
+    EXPECT(same_session(mogtriz_pairs(no_mark, 1).session, no_mark));
+    EXPECT(found_is(mogtriz_pairs(no_session(), 0), MOGTRIZ_REFUSED_NO_SUCH_SESSION, 0, 0, 0));
+    EXPECT(same_session(mogtriz_pairs(no_session(), 0).session, no_session()));
+    EXPECT(found_is(mogtriz_pairs(all, 0), MOGTRIZ_REFUSED_NO_SUCH_NODE, 0, 0, 0));
+    EXPECT(found_is(mogtriz_pairs(all, N + 1), MOGTRIZ_REFUSED_NO_SUCH_NODE, 0, 0, 0));
+    EXPECT(found_is(mogtriz_pairs(all, SIZE_MAX), MOGTRIZ_REFUSED_NO_SUCH_NODE, 0, 0, 0));
+    EXPECT(same_session(mogtriz_pairs(all, N + 1).session, all));
+}
+
 static void call_repairs(void)
 {
     const uint8_t wanted[] = {1, 1, 4, 5, 1, 2, 5, 7, 1, 3, 4, 7, 2, 6, 1, 7};
@@ -265,6 +295,8 @@ static void call_to_be_counted(void)
     EXPECT(plan.refusal == MOGTRIZ_SERVED && same_session(plan.session, wanted));
     mogtriz_written listed = mogtriz_live_nodes(wanted, list, sizeof list);
     EXPECT(listed.refusal == MOGTRIZ_SERVED && same_session(listed.session, wanted));
+    mogtriz_pairs_found found = mogtriz_pairs(wanted, 6);
+    EXPECT(found_is(found, MOGTRIZ_SERVED, 1, 7, 1) && same_session(found.session, wanted));
     mogtriz_written written = mogtriz_write(wanted, nodes, sizeof nodes, kept, sizeof kept, box, sizeof box);
     EXPECT(written.refusal == MOGTRIZ_SERVED && same_session(written.session, wanted));
 
@@ -339,6 +371,7 @@ int main(void)
     call_write_with_no_node();
     call_live_nodes();
     call_read_out();
+    call_pairs();
     call_repairs();
     call_to_be_counted();
     call_to_be_refused();

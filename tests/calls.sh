@@ -27,6 +27,8 @@ listed F | functions >"$out/inline"
 # each call with a buffer has its own in the header
 listed C | grep 'uint8_t \*' | functions >"$out/with_buffers"
 sed 's/mogtriz_/&inline_/' "$out/with_buffers" | diff - <(comm -12 "$out/inline" <(sed 's/mogtriz_/&inline_/' "$out/exported"))
+# each call with a buffer or a session has a refusal in its answer
+listed C | grep -E 'uint8_t \*|\(mogtriz_session' | functions >"$out/with_refusals"
 
 # ---- each of them called, in every language
 
@@ -49,8 +51,9 @@ calls() {
             exit 1
         fi
     done <"$out/header.said"
-    "${@:2}" -Iinclude -c tests/ignored.c -o "$out/ignored.o" 2>&1 | grep 'ignoring return value' | grep -oE 'mogtriz_inline_[a-z_]+' |
-        sed 's/inline_//' | sort -u | diff "$out/with_buffers" -
+    # a function's name stands before a bracket or, in C, a quotation mark
+    LC_ALL=C "${@:2}" -Iinclude -c tests/ignored.c -o "$out/ignored.o" 2>&1 | grep 'ignoring return value' |
+        grep -oE "mogtriz_[a-z_]+['(]" | sed 's/inline_//' | names | diff "$out/with_refusals" -
     echo "$1: $(wc -l <"$out/exported") functions called"
 }
 

@@ -1,6 +1,6 @@
 /*
- * What the header says by itself, held to the library: families and limits, lengths, the counts of a session that is taken, refusals'
- * texts, and which node has which column.
+ * What the header says by itself, held to the library: families and limits, lengths, how many pairs a node has, the counts of a
+ * session that is taken, refusals' texts, and which node has which column.
  * It prints the header's sentences on the tetrahedron, on interleaving and on graded order, with the columns, bytes and nodes that the
  * library gives.
  */
@@ -198,6 +198,51 @@ static void hold_plan_room(void)
     EXPECT(MOGTRIZ_PLAN_ROOM == MOGTRIZ_STEP_LEN * MOGTRIZ_MOST_NODES);
 }
 
+static size_t most_pairs(size_t family, size_t k)
+{
+    switch (family) {
+    case MOGTRIZ_SIMPLEX:
+        return (mogtriz_node_count(family, k) - 1) / 2;
+    case MOGTRIZ_WEIGHT_TWO:
+        return k - 1;
+    default:
+        return 6;
+    }
+}
+
+/* With all nodes live every node has as many pairs; with node n lost those that it was in are gone, and its own are not. */
+static void hold_pairs(size_t family, size_t k)
+{
+    uint8_t list[MOGTRIZ_MOST_NODES];
+    const size_t n = mogtriz_node_count(family, k), most = most_pairs(family, k);
+    for (size_t i = 0; i < n; i++) {
+        list[i] = (uint8_t)(i + 1);
+    }
+    mogtriz_session session = mogtriz_start(family, k, LEN, list, n).session;
+    for (size_t node = 1; node <= n; node++) {
+        EXPECT(mogtriz_pairs(session, node).count == most);
+    }
+    session.live[n] = 0;
+    size_t lost = 0;
+    for (size_t node = 1; node <= n; node++) {
+        const mogtriz_pairs_found found = mogtriz_pairs(session, node);
+        EXPECT(found.count <= most && (found.count == 0) == (found.smaller == 0));
+        EXPECT(found.count == 0 || mogtriz_related(family, k, node, found.smaller, found.larger) == 1);
+        lost += most - found.count;
+    }
+    /* where n is related to a and b, a has lost the pair of b and n, and b that of a and n */
+    EXPECT(mogtriz_pairs(session, n).count == most && lost == 2 * most);
+}
+
+static void hold_all_pairs(void)
+{
+    for (size_t i = 0; i < FAMILIES; i++) {
+        for (size_t k = families[i].least_k; k <= families[i].most_k; k++) {
+            hold_pairs(families[i].family, k);
+        }
+    }
+}
+
 /* A mark for 0, and one that is neither 0 nor 1, is no live node. */
 static void hold_live_count(void)
 {
@@ -379,6 +424,7 @@ int main(void)
     hold_lengths();
     hold_lengths_out_of_range();
     hold_plan_room();
+    hold_all_pairs();
     hold_live_count();
     hold_counts();
     hold_most_reads();

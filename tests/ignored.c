@@ -17,6 +17,7 @@ void ignore_answers(uint8_t *buffer, size_t length)
     mogtriz_write(three_live(), three_nodes, sizeof three_nodes, kept, sizeof kept, buffer, length);
     mogtriz_live_nodes(three_live(), buffer, length);
     mogtriz_read_out(three_live(), all_nodes, sizeof all_nodes, buffer, length);
+    mogtriz_pairs(three_live(), 1);
     mogtriz_step(three_live(), buffer, length, 1, 4, 5);
     mogtriz_plan(three_live(), buffer, length);
     mogtriz_run(three_live(), buffer, length);

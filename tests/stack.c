@@ -109,6 +109,11 @@ static void read_out(void)
     given = mogtriz_read_out(session, nodes, nodes_len, object, object_len).refusal;
 }
 
+static void pairs(void)
+{
+    given = mogtriz_pairs(session, 3).refusal;
+}
+
 static void step(void)
 {
     given = mogtriz_step(session, nodes, nodes_len, 3, 1, 2).refusal;
@@ -133,7 +138,8 @@ static struct {
     {"related", related, 0},         {"encode", encode, 0},         {"interleave", interleave, 0}, {"deinterleave", deinterleave, 0},
     {"start", start, 0},             {"check", check, 0},           {"read", read_box, 0},         {"body", body, 0},
     {"from_graded", from_graded, 0}, {"to_graded", to_graded, 0},   {"write", write_box, 0},       {"live_nodes", live_nodes, 0},
-    {"read_out", read_out, 0},       {"step", step, 0},             {"plan", make_plan, 0},        {"run", run, 0},
+    {"read_out", read_out, 0},       {"pairs", pairs, 0},           {"step", step, 0},             {"plan", make_plan, 0},
+    {"run", run, 0},
 };
 
 enum { CALLS = sizeof calls / sizeof calls[0] };
