@@ -4,8 +4,8 @@
 use crate::guarded::Guarded;
 use crate::interleaving::Interleaving;
 use crate::samples::Shape;
-use crate::{boxes, graded, interleaving, library, planner};
-use mogtriz::raw::{self, Converted, Repairs, Session, Stepped};
+use crate::{boxes, graded, interleaving, library, pairs, planner};
+use mogtriz::raw::{self, Converted, PairsFound, Repairs, Session, Stepped};
 
 /// The bytes of a message, cut where they would fill the screen.
 fn shown(bytes: &[u8]) -> String {
@@ -192,6 +192,15 @@ pub fn read_out(session: Session, nodes: &[u8], object_len: usize) -> u8 {
     }
     assert!(lent.untouched(), "{}: the nodes were written to", place());
     wanted.refusal
+}
+
+/// The node's number may be any.
+pub fn pairs(session: Session, node: usize) -> PairsFound {
+    let wanted = pairs::pairs(session, node);
+    for pairs in [library::pairs, raw::pairs] {
+        assert_eq!(pairs(session, node), wanted, "pairs {node} {session:?}");
+    }
+    wanted
 }
 
 /// The nodes are left as the call leaves them.

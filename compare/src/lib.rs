@@ -13,6 +13,7 @@ pub mod live_sets;
 pub mod open;
 #[allow(unsafe_code)]
 mod pages;
+pub mod pairs;
 pub mod papers;
 pub mod planner;
 pub mod random;

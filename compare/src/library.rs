@@ -4,7 +4,9 @@
 //! `mogtriz::raw` has what C gives.
 use crate::boxes::NO_SESSION;
 use mogtriz::Refusal;
-use mogtriz::raw::{Converted, Part, ReadOut, Repairs, Session, Started, Stepped, Written};
+use mogtriz::raw::{
+    Converted, PairsFound, Part, ReadOut, Repairs, Session, Started, Stepped, Written,
+};
 
 pub fn encode(family: usize, k: usize, len: usize, object: &[u8], nodes: &mut [u8]) -> u8 {
     number(mogtriz::encode(family, k, len, object, nodes))
@@ -86,6 +88,20 @@ pub fn read_out(session: Session, nodes: &[u8], object: &mut [u8]) -> ReadOut {
     ReadOut {
         refusal: number(answer),
         block: answer.map_or_else(block_of, |()| 0),
+        session: left_of(&session),
+    }
+}
+
+/// No pair is a pair of zeros in C.
+pub fn pairs(session: Session, node: usize) -> PairsFound {
+    let session = handed_in(session);
+    let answer = session.pairs(node);
+    let [smaller, larger] = answer.map_or(None, |pairs| pairs.least).unwrap_or([0; 2]);
+    PairsFound {
+        refusal: number(answer),
+        smaller,
+        larger,
+        count: answer.map_or(0, |pairs| pairs.count),
         session: left_of(&session),
     }
 }

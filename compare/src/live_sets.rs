@@ -34,6 +34,11 @@ impl LiveSets {
         place.expect("a node has this column") as u8 + 1
     }
 
+    /// So many nodes, n at most.
+    pub fn so_many(self, count: usize, random: &mut Random) -> Vec<u8> {
+        choose(count, self.all(), random)
+    }
+
     /// From k - 2 to k + 2 nodes.
     pub fn about_k(self, random: &mut Random) -> Vec<u8> {
         let count = self.k - 2 + random.below(5);

@@ -104,8 +104,8 @@ impl Case {
         ]
     }
 
-    /// What step, plan, run, write, live nodes and read out give in a session with this L.
-    fn numbers_in_a_session(&self, random: &mut Random) -> [u8; 6] {
+    /// What step, plan, run, write, live nodes, read out and pairs give in a session with this L.
+    fn numbers_in_a_session(&self, random: &mut Random) -> [u8; 7] {
         let live = self.live();
         let fitting = self.shape.session(&live);
         let session = Session {
@@ -122,6 +122,7 @@ impl Case {
             calls::write(session, &self.nodes, &live, room),
             calls::live_nodes(session, live.len()),
             calls::read_out(session, &self.nodes, self.object.len()),
+            calls::pairs(session, triple[0]).refusal,
         ]
     }
 }
@@ -135,7 +136,7 @@ fn hold_every_call(lens: &[usize], number: u8, in_session: u8) {
             let place = format!("family {family} k {k} L {len}");
             assert_eq!(case.numbers(), [number; 4], "{place}");
             let numbers = case.numbers_in_a_session(random);
-            assert_eq!(numbers, [in_session; 6], "{place}");
+            assert_eq!(numbers, [in_session; 7], "{place}");
             if len < 1 << 16 {
                 let numbers = case.numbers_of_a_box(random);
                 assert_eq!(numbers, [number; 3], "{place}");

@@ -40,8 +40,8 @@ impl Case {
         self.nodes.len() / LEN
     }
 
-    /// What step, plan, run, write, live nodes and read out give.
-    fn numbers(&self, session: Session) -> [u8; 6] {
+    /// What step, plan, run, write, live nodes, read out and pairs give.
+    fn numbers(&self, session: Session) -> [u8; 7] {
         let live = live_nodes(&session);
         let lent = || self.nodes.clone();
         [
@@ -51,6 +51,7 @@ impl Case {
             calls::write(session, &self.nodes, &live, box_len(live.len(), LEN)),
             calls::live_nodes(session, live.len()),
             calls::read_out(session, &self.nodes, session.k * LEN),
+            calls::pairs(session, self.triple[0]).refusal,
         ]
     }
 
@@ -73,7 +74,7 @@ impl Case {
     /// Each call gives 13.
     fn is_turned_away(&self, steps: usize, reads: [u16; MARKS]) {
         let session = self.with(steps, reads);
-        assert_eq!(self.numbers(session), [13; 6], "{session:?}");
+        assert_eq!(self.numbers(session), [13; 7], "{session:?}");
     }
 
     /// From no step to the most that there can be: with the missing nodes they are n.

@@ -49,10 +49,13 @@
 //! # Sessions
 //!
 //! A [`Session`] says which nodes are live. [`step`](Session::step) and [`run`](Session::run) repair nodes and borrow it as
-//! mutable, to mark them live; [`plan`](Session::plan), [`write`](Session::write),
+//! mutable, to mark them live; [`plan`](Session::plan), [`pairs`](Session::pairs), [`write`](Session::write),
 //! [`live_nodes_into`](Session::live_nodes_into) and [`read_out`](Session::read_out) only look at it. After an encode every
 //! node is at hand: a [`start`](Session::start) with the list 1 to n says so. For a node that is lost or found damaged later,
 //! start anew without it.
+//!
+//! A busy node need not be read from its own drive: its block is the XOR of the blocks of any pair related to it.
+//! [`pairs`](Session::pairs) says how many of its pairs are live, and gives one.
 //!
 //! A session also counts, from 0 at the start: [`reads`](Session::reads) says how often each node's block was read by steps, those of
 //! a run included, and [`steps`](Session::steps) how many steps there were. The counts can be read off at any time.
@@ -108,6 +111,7 @@ mod boxes;
 mod codes;
 mod interleaving;
 mod lengths;
+mod pairs;
 mod plan;
 #[allow(unsafe_code, missing_docs)]
 #[doc(hidden)]
@@ -125,6 +129,7 @@ pub use interleaving::{deinterleave, interleave};
 pub use lengths::{
     MOST_K, MOST_LEN, MOST_NODES, PLAN_ROOM, box_len, node_count, nodes_len, object_len,
 };
+pub use pairs::Pairs;
 pub use plan::{Plan, Step};
 pub use refusal::Refusal;
 pub use repair::Repairs;

@@ -51,6 +51,17 @@ pub struct ReadOut {
     pub session: Session,
 }
 
+/// C's `mogtriz_pairs_found`: what looking for the pairs of a node gives, the least pair and how many there are.
+#[repr(C)]
+#[derive(Clone, Copy, Debug, PartialEq, Eq)]
+pub struct PairsFound {
+    pub refusal: u8,
+    pub smaller: usize,
+    pub larger: usize,
+    pub count: usize,
+    pub session: Session,
+}
+
 /// C's `mogtriz_stepped`: what a step gives, with the next session.
 #[repr(C)]
 #[derive(Clone, Copy, Debug, PartialEq, Eq)]
@@ -180,6 +191,7 @@ unsafe extern "C" {
         object: *mut u8,
         object_len: usize,
     ) -> ReadOut;
+    safe fn mogtriz_pairs(session: Session, node: usize) -> PairsFound;
     fn mogtriz_step(
         session: Session,
         nodes: *mut u8,
@@ -197,6 +209,12 @@ unsafe extern "C" {
 pub fn related(family: usize, k: usize, nodes: [usize; 3]) -> u8 {
     let [a, b, c] = nodes;
     mogtriz_related(family, k, a, b, c)
+}
+
+/// The least pair of a node, and how many it has.
+#[must_use]
+pub fn pairs(session: Session, node: usize) -> PairsFound {
+    mogtriz_pairs(session, node)
 }
 
 // SAFETY, for every call below: each pointer comes with the length of its slice, also of an empty one, and a slice

@@ -2,7 +2,9 @@
 //! that it has in `raw`, and the header has no other.
 mod in_c;
 
-use mogtriz::raw::{Converted, Part, ReadOut, Repairs, Session, Started, Stepped, Written};
+use mogtriz::raw::{
+    Converted, PairsFound, Part, ReadOut, Repairs, Session, Started, Stepped, Written,
+};
 use std::fmt::Write;
 use std::fs;
 use std::mem::{offset_of, size_of};
@@ -33,6 +35,7 @@ fn layouts_in_rust() -> String {
         layout!("mogtriz_started" Started { refusal, session }),
         layout!("mogtriz_written" Written { refusal, length, session }),
         layout!("mogtriz_read_out_answer" ReadOut { refusal, block, session }),
+        layout!("mogtriz_pairs_found" PairsFound { refusal, smaller, larger, count, session }),
         layout!("mogtriz_stepped" Stepped { refusal, session }),
         layout!("mogtriz_repairs" Repairs { refusal, steps, rounds, left, session }),
         layout!("mogtriz_part" Part { refusal, from, length }),

@@ -53,6 +53,7 @@ fn store_and_repair() -> Result<(), Refusal> {
     let mut out = [0; PLAN_ROOM];
     let plan = session.plan(&mut out)?;
     assert!(plan.steps().map(|step| step.node).eq([1, 2, 3, 6]));
+    assert!(session.pairs(1)?.least == Some([4, 5]) && session.pairs(6)?.count == 0);
     assert!(session.run(&mut nodes)? == plan.repairs);
     assert!(session.steps() == 4 && session.reads()[..8] == [0, 1, 0, 0, 2, 2, 0, 3]);
 
