@@ -1,7 +1,7 @@
 //! A box of any content: checked, read, a body looked for in it, and converted from and to graded order; an accepted one is written
-//! again, repaired and read out, and one that is converted comes back.
+//! again, repaired and read out, and asked for the pairs of a node, and one that is converted comes back.
 use crate::input::{Input, MOST_BYTES};
-use crate::seen::Operation::{Body, Check, FromGraded, LiveNodes, Plan};
+use crate::seen::Operation::{Body, Check, FromGraded, LiveNodes, Pairs, Plan};
 use crate::seen::Operation::{Read, ReadOut, Run, ToGraded, Write};
 use crate::seen::count;
 use compare::boxes::{self, HEAD, box_len, live_nodes};
@@ -28,6 +28,7 @@ pub fn compare(input: &mut Input) {
         let mut nodes = vec![0x5a; nodes_len];
         library::read(bytes, &mut nodes);
         with_nodes(checked.session, &mut nodes, &list, bytes);
+        count(Pairs, calls::pairs(checked.session, node).refusal);
     }
 }
 

@@ -2,7 +2,7 @@
 //! pair is left are the nodes that were open at the start, and what is counted are the accepted steps and their reads.
 use crate::counts::{beside, counted};
 use crate::input::{Input, MOST_BYTES};
-use crate::seen::Operation::{LiveNodes, Plan, ReadOut, Run, Start, Step, Write};
+use crate::seen::Operation::{LiveNodes, Pairs, Plan, ReadOut, Run, Start, Step, Write};
 use crate::seen::count;
 use compare::boxes::{self, HEAD, box_len, live_nodes, missing_nodes};
 use compare::calls;
@@ -64,16 +64,17 @@ impl List {
     /// One call with another session, after which the list goes on as before.
     fn call_once(&self, call: u8, session: Session) {
         let object_len = session.k.saturating_mul(session.len).min(MOST_BYTES);
-        let number = match call % 6 {
+        let number = match call % 7 {
             0 => calls::step(session, &mut self.nodes.clone(), [1, 2, 3]).refusal,
             1 => calls::run(session, &mut self.nodes.clone()).refusal,
             2 => calls::plan(session, 4 * 255).refusal,
             3 => calls::write(session, &self.nodes, &[], HEAD),
             4 => calls::read_out(session, &self.nodes, object_len),
-            _ => calls::live_nodes(session, 255),
+            5 => calls::live_nodes(session, 255),
+            _ => calls::pairs(session, 3).refusal,
         };
-        let operations = [Step, Run, Plan, Write, ReadOut, LiveNodes];
-        count(operations[usize::from(call % 6)], number);
+        let operations = [Step, Run, Plan, Write, ReadOut, LiveNodes, Pairs];
+        count(operations[usize::from(call % 7)], number);
     }
 
     fn go_on_with(&mut self, session: Session) {
@@ -91,7 +92,7 @@ impl List {
     }
 
     fn call(&mut self, input: &mut Input) {
-        match input.byte() % 10 {
+        match input.byte() % 11 {
             0 => self.step([(); 3].map(|()| input.number())),
             1 | 2 => self.right_step(input),
             3 => self.run(),
@@ -103,7 +104,8 @@ impl List {
                 self.nodes.resize(length, 0xa5);
             }
             8 => self.change(input),
-            _ => self.live_nodes(input),
+            9 => self.live_nodes(input),
+            _ => self.pairs(input.number()),
         }
     }
 
@@ -186,6 +188,22 @@ impl List {
     fn live_nodes(&mut self, input: &mut Input) {
         let room = input.length_near(live_nodes(&self.session).len());
         count(LiveNodes, calls::live_nodes(self.session, room));
+    }
+
+    /// Where they are given they are those that a step can be made from.
+    fn pairs(&self, node: usize) {
+        // the other numbers are the first again once cut to 8, 16 or 32 bits
+        for raise in [1 << 8, 1 << 16, 1 << 32] {
+            let found = calls::pairs(self.session, node.wrapping_add(raise));
+            count(Pairs, found.refusal);
+        }
+        let found = calls::pairs(self.session, node);
+        if count(Pairs, found.refusal) == 0 {
+            let pairs = pairs(&self.session, node as u8);
+            let least = pairs.first().map_or([0; 2], |pair| pair.map(usize::from));
+            let given = ([found.smaller, found.larger], found.count);
+            assert_eq!(given, (least, pairs.len()), "{node} {:?}", self.session);
+        }
     }
 
     fn read_out(&mut self, input: &mut Input) {

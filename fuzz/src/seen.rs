@@ -17,12 +17,13 @@ pub enum Operation {
     Write,
     LiveNodes,
     ReadOut,
+    Pairs,
     Step,
     Plan,
     Run,
 }
 
-const NAMES: [&str; 14] = [
+const NAMES: [&str; 15] = [
     "interleave",
     "deinterleave",
     "start",
@@ -34,6 +35,7 @@ const NAMES: [&str; 14] = [
     "write",
     "live nodes",
     "read out",
+    "pairs",
     "step",
     "plan",
     "run",
