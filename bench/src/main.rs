@@ -1,4 +1,4 @@
-//! Encoding, interleaving, boxes, lists of live nodes, plans, runs and relations, timed against other ways to fill the same
+//! Encoding, interleaving, boxes, lists of live nodes, plans, pairs, runs and relations, timed against other ways to fill the same
 //! buffers; with `--count`, the instructions of one call of each; with `--related`, what a relation takes for every triple of
 //! weight-two 22.
 mod boxes;
@@ -39,17 +39,20 @@ fn main() -> io::Result<()> {
     Ok(())
 }
 
-fn tables(mut meter: Meter) -> [Table; 12] {
+fn tables(mut meter: Meter) -> [Table; 13] {
     let mut random = Random::seeded();
+    // chosen first, so that they are the same whatever numbers the tables take
+    let some_lost = repairs::with_some_lost(&mut random);
     let [read, write] = boxes::tables(&mut random, &mut meter);
     let encode = encoding::table(&mut random, &mut meter);
-    let plan = repairs::plans(&mut meter);
+    let plan = repairs::plans(&some_lost, &mut meter);
     let run = repairs::runs(&mut random, &mut meter);
     let step = repairs::steps(&mut random, &mut meter);
     let relate = relations::table(&mut random, &mut meter);
     let list = boxes::live_lists(&mut random, &mut meter);
     let [from_graded, to_graded] = boxes::conversions(&mut random, &mut meter);
     let [interleave, deinterleave] = interleaving::tables(&mut random, &mut meter);
+    let pairs = repairs::pairs(&some_lost, &mut meter);
     [
         encode,
         interleave,
@@ -60,6 +63,7 @@ fn tables(mut meter: Meter) -> [Table; 12] {
         to_graded,
         list,
         plan,
+        pairs,
         run,
         step,
         relate,
@@ -68,8 +72,8 @@ fn tables(mut meter: Meter) -> [Table; 12] {
 
 fn print_times(tables: &[Table]) {
     println!("all ways gave the same bytes; times in microseconds, {ROUNDS} repetitions by turns,");
-    let (steps, relations) = (repairs::STEP_ROUNDS, relations::ROUNDS);
-    println!("{steps} of all steps and {relations} of a million relations");
+    let (calls, relations) = (repairs::FEWER_ROUNDS, relations::ROUNDS);
+    println!("{calls} of all steps and of all nodes' pairs, {relations} of a million relations");
     println!("\nmedians");
     tables.iter().for_each(|table| table.print(2));
     println!("\nthe fastest tenth, which other work on the machine disturbs less");

@@ -1,26 +1,29 @@
-//! Planning, timed against the same search in Rust, runs, timed against the same XORs in Rust and by ISA-L, and
-//! against Rust that plans them first, as a run does, and steps, timed against Rust that checks the same of sound
-//! sessions. The rivals count no reads.
+//! Planning, timed against the same search with its count of pairs in Rust, and against a search that ends with the pair; the pairs of
+//! each node, timed against the same in Rust; runs, timed against the same XORs in Rust and by ISA-L, and against Rust that plans them
+//! first, as a run does; and steps, timed against Rust that checks the same of sound sessions. The rivals count no reads.
 use crate::isal;
-use crate::rivals::{self, Family};
+use crate::rivals::{self, Family, Planner};
 use crate::table::{Line, Table};
 use crate::timing::{Aligned, Meter, Way};
 use compare::library::handed_in;
+use compare::live_sets::LiveSets;
 use compare::papers::code;
-use compare::planner;
 use compare::random::Random;
 use compare::samples::Shape;
-use mogtriz::{Refusal, Repairs};
+use compare::{pairs, planner};
+use mogtriz::raw::Session;
+use mogtriz::{Pairs, Refusal, Repairs};
 use std::hint::black_box;
 
 /// The k of weight-two.
 const K: usize = 22;
 
-/// Repetitions of some hundred or thousand steps.
-pub const STEP_ROUNDS: usize = 101;
+/// Repetitions of some hundred or thousand calls.
+pub const FEWER_ROUNDS: usize = 101;
 
 /// A code with its live nodes, and how a table names them.
-struct Case {
+#[derive(Clone)]
+pub struct Case {
     family: Family,
     k: usize,
     word: &'static str,
@@ -34,6 +37,17 @@ fn simplex(word: &'static str, live: Vec<u8>) -> Case {
         word,
         live,
     }
+}
+
+/// Simplex 8 with 1, 8 and 64 nodes lost.
+pub fn with_some_lost(random: &mut Random) -> [Case; 3] {
+    let sets = LiveSets { family: 1, k: 8 };
+    let mut lose = |count: usize| sets.so_many(255 - count, random);
+    [
+        simplex("1 lost", lose(1)),
+        simplex("8 lost", lose(8)),
+        simplex("64 lost", lose(64)),
+    ]
 }
 
 /// Data block 1 and the pairs 1 2, 2 3 and so on, which take the most rounds.
@@ -61,46 +75,134 @@ fn counts(answer: Result<Repairs, Refusal>) -> [usize; 3] {
     [repairs.steps, repairs.rounds, repairs.left]
 }
 
+impl Case {
+    fn shape(&self) -> Shape {
+        Shape {
+            family: self.family as usize,
+            k: self.k,
+            len: 1,
+        }
+    }
+
+    fn session(&self) -> Session {
+        self.shape().session(&self.live)
+    }
+
+    fn name(&self) -> String {
+        self.family.name(self.k, self.word)
+    }
+}
+
+/// How many pairs the nodes that a plan repairs have in all, each when its round begins.
+fn pairs_of_repaired(session: Session, plan: &planner::Plan) -> usize {
+    let (mut began, mut sum) = (session, 0);
+    for round in 1..=plan.rounds {
+        let repaired = plan
+            .steps
+            .iter()
+            .filter(|step| usize::from(step[0]) == round);
+        let nodes: Vec<usize> = repaired.map(|step| step[1].into()).collect();
+        let counts = nodes.iter().map(|&node| pairs::pairs(began, node).count);
+        sum += counts.sum::<usize>();
+        nodes.iter().for_each(|&node| began.live[node] = 1);
+    }
+    sum
+}
+
 fn plan(case: Case, meter: &mut Meter) -> Line {
     let Case { family, k, .. } = case;
-    let shape = Shape {
-        family: family as usize,
-        k,
-        len: 1,
-    };
-    let session = shape.session(&case.live);
+    let session = case.session();
     let plan = planner::plan_of(&session);
-    let left = shape.n() - case.live.len() - plan.steps.len();
+    let left = case.shape().n() - case.live.len() - plan.steps.len();
     let wanted = [plan.steps.len(), plan.rounds, left];
+    let pairs = pairs_of_repaired(session, &plan);
     let handed_in = handed_in(session);
     let mogtriz = |_: &[u8], out: &mut [u8]| {
         let plan = handed_in.plan(out);
         assert_eq!(counts(plan.map(|plan| plan.repairs)), wanted);
     };
     let rust = |_: &[u8], out: &mut [u8]| {
-        assert_eq!(rivals::plan(family, k, &session.live, out), wanted);
+        // the sum is of use, so that no compiler leaves the counts out
+        let planned = rivals::plan(family, k, &session.live, out);
+        assert_eq!(planned, (wanted, pairs));
     };
-    let ways: [Way; 2] = [&mogtriz, &rust];
+    let rust_pair = |_: &[u8], out: &mut [u8]| {
+        assert_eq!(rivals::plan_by_pairs(family, k, &session.live, out), wanted);
+    };
+    let ways: [Way; 3] = [&mogtriz, &rust, &rust_pair];
     let expected = plan.steps.concat();
     let mut out = Aligned::unfilled(expected.len());
     Line {
-        name: family.name(k, case.word),
-        goals: vec![Some(1.0)],
+        name: case.name(),
+        goals: vec![Some(1.0), None],
         measured: meter.compare_and_measure(&ways, &[], &mut out, &expected, 0),
     }
 }
 
-pub fn plans(meter: &mut Meter) -> Table {
-    let cases = [
+pub fn plans(some_lost: &[Case], meter: &mut Meter) -> Table {
+    let hard = [
         simplex("data", data_nodes()),
         simplex("1-127", (1..=127).collect()),
         simplex("none", vec![]),
         path(),
     ];
+    let cases = some_lost.iter().cloned().chain(hard);
     Table {
         title: "plan",
+        ways: &["Mogtriz", "Rust", "Rust pair"],
+        lines: cases.map(|case| plan(case, meter)).collect(),
+    }
+}
+
+/// The pairs of every node, a call each, which are put down as smaller, larger and their number.
+fn pairs_of_each(case: &Case, meter: &mut Meter) -> Line {
+    let (session, n) = (case.session(), case.shape().n());
+    let wanted = (1..=n).map(|node| pairs::pairs(session, node));
+    let wanted = wanted.map(|found| [found.smaller, found.larger, found.count]);
+    let expected: Vec<u8> = wanted
+        .flat_map(|row| row.map(|number| number as u8))
+        .collect();
+    let put = |row: &mut [u8], numbers: [usize; 3]| {
+        row.copy_from_slice(&numbers.map(|number| number as u8));
+    };
+    let handed_in = handed_in(session);
+    let mogtriz = |_: &[u8], out: &mut [u8]| {
+        for (row, node) in out.chunks_exact_mut(3).zip(1..) {
+            let Pairs { least, count } = handed_in.pairs(node).expect("a sound call");
+            let [smaller, larger] = least.unwrap_or([0; 2]);
+            put(row, [smaller, larger, count]);
+        }
+    };
+    // the columns are worked out beforehand
+    let planner = Planner::new(case.family, case.k);
+    let rust = |_: &[u8], out: &mut [u8]| {
+        for (row, node) in out.chunks_exact_mut(3).zip(1..) {
+            let found = rivals::pairs(&planner, black_box(&session.live), node);
+            put(row, found.expect("a sound call"));
+        }
+    };
+    let ways: [Way; 2] = [&mogtriz, &rust];
+    let mut out = Aligned::unfilled(expected.len());
+    Line {
+        name: case.name(),
+        goals: vec![None],
+        measured: meter.compare_in_rounds(FEWER_ROUNDS, &ways, &[], &mut out, &expected, 0),
+    }
+}
+
+pub fn pairs(some_lost: &[Case], meter: &mut Meter) -> Table {
+    let half = simplex("half", (1..=255).step_by(2).collect());
+    let all = Case {
+        family: Family::WeightTwo,
+        k: K,
+        word: "all",
+        live: (1..=253).collect(),
+    };
+    let cases = some_lost.iter().cloned().chain([half, all]);
+    Table {
+        title: "pairs of each node",
         ways: &["Mogtriz", "Rust"],
-        lines: cases.map(|case| plan(case, meter)).into(),
+        lines: cases.map(|case| pairs_of_each(&case, meter)).collect(),
     }
 }
 
@@ -130,7 +232,8 @@ fn run(len: usize, goals: [Option<f64>; 3], random: &mut Random, meter: &mut Met
     };
     let planned = |_: &[u8], nodes: &mut [u8]| {
         let mut bytes = [0; 4 * 255];
-        let [count, ..] = rivals::plan(family, k, &session.live, &mut bytes);
+        let ([count, ..], pairs) = rivals::plan(family, k, &session.live, &mut bytes);
+        black_box(pairs);
         rivals::repair(&bytes[..4 * count], len, nodes, rivals::xor);
     };
     let ways: [Way; 4] = [&mogtriz, &rust, &isal, &planned];
@@ -218,7 +321,7 @@ fn step(word: &str, with_data: bool, random: &mut Random, meter: &mut Meter) -> 
     Line {
         name: family.name(K, word),
         goals: vec![None],
-        measured: meter.compare_in_rounds(STEP_ROUNDS, &ways, &[], &mut nodes, &expected, 0),
+        measured: meter.compare_in_rounds(FEWER_ROUNDS, &ways, &[], &mut nodes, &expected, 0),
     }
 }
 

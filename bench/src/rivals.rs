@@ -1,5 +1,5 @@
 //! The library's work in safe Rust: encoding and repairs, with a block XOR of the caller's choice, interleaving, the bodies of a
-//! box, the list of the live nodes, planning, and relations. Which blocks go where is worked out beforehand, so that a rival's time is
+//! box, the list of the live nodes, planning, the pairs of a node, and relations. Which blocks go where is worked out beforehand, so that a rival's time is
 //! that of the blocks alone; a planner works out all of it in the call.
 use std::fmt::Display;
 
@@ -47,11 +47,16 @@ fn node_of(family: Family, k: usize, column: usize) -> usize {
     }
 }
 
+/// Whether every mark is one, and none is live for 0 or above n.
+fn are_marks(n: usize, marks: &[u8; 256]) -> bool {
+    let no_mark = marks.iter().any(|&mark| mark > 1);
+    !no_mark && marks[0] == 0 && !marks[n + 1..].contains(&1)
+}
+
 /// The live nodes of 1 to n in a lent buffer, and their number; none where a mark is no mark, or live for 0 or above n, or the
 /// buffer is too short.
 pub fn list_live(n: usize, marks: &[u8; 256], out: &mut [u8]) -> Option<usize> {
-    let no_mark = marks.iter().any(|&mark| mark > 1);
-    if no_mark || marks[0] == 1 || marks[n + 1..].contains(&1) {
+    if !are_marks(n, marks) {
         return None;
     }
     let live = (1..=n).filter(|&node| marks[node] == 1);
@@ -144,15 +149,21 @@ pub fn deinterleave(k: usize, len: usize, object: &[u8], out: &mut [u8]) {
 
 /// A code to plan for. Its columns begin at 1, as nodes do, in an array of a length that spares the search a check
 /// of each place.
-struct Planner {
+pub struct Planner {
     family: Family,
     k: usize,
     n: usize,
     columns: [usize; 256],
 }
 
+/// The least pair of a node, and how many it has.
+struct Found {
+    least: [usize; 2],
+    count: usize,
+}
+
 impl Planner {
-    fn new(family: Family, k: usize) -> Planner {
+    pub fn new(family: Family, k: usize) -> Planner {
         let columns = columns(family, k);
         let n = columns.len();
         let mut from_1 = [0; 256];
@@ -165,13 +176,27 @@ impl Planner {
         }
     }
 
+    /// The node that is related to two different ones; 0 where there is none.
+    fn third(&self, one: usize, other: usize) -> usize {
+        let column = self.columns[one] ^ self.columns[other];
+        node_of(self.family, self.k, column)
+    }
+
+    /// How many pairs a node has with all nodes live.
+    fn most_pairs(&self) -> usize {
+        match self.family {
+            Family::Simplex => (self.n - 1) / 2,
+            Family::WeightTwo => self.k - 1,
+        }
+    }
+
     /// Goes through the first members upward; a member's partner is the node of the column that it lacks.
     fn pair_for(&self, node: usize, live: &[bool; 256]) -> Option<[usize; 2]> {
         // `1..=n` would take longer
         let end = self.n.min(255) + 1;
         for a in 1..end {
             if live[a] {
-                let b = node_of(self.family, self.k, self.columns[node] ^ self.columns[a]);
+                let b = self.third(node, a);
                 if live[b] {
                     return Some([a, b]);
                 }
@@ -179,31 +204,168 @@ impl Planner {
         }
         None
     }
+
+    /// The same pair of a missing node, and how many there are, by the live nodes: each pair is met twice, by its first member and by
+    /// its second.
+    fn pairs_by_live(
+        &self,
+        node: usize,
+        is_live: &[bool; 256],
+        live: impl Iterator<Item = usize>,
+    ) -> Option<Found> {
+        let mut members = live.filter_map(|a| {
+            let b = self.third(node, a);
+            is_live[b].then_some([a, b])
+        });
+        let least = members.next()?;
+        // the first is taken already
+        let count = members.count().div_ceil(2);
+        Some(Found { least, count })
+    }
+
+    /// The same by the missing nodes: of twice the most, each takes one away, and one more where it leaves a live node without its
+    /// partner.
+    fn pairs_by_missing(
+        &self,
+        node: usize,
+        is_live: &[bool; 256],
+        missing: impl Iterator<Item = usize>,
+    ) -> Option<Found> {
+        let least = self.pair_for(node, is_live)?;
+        // the node itself is in none of its pairs
+        let taken = missing.filter(|&other| other != node).map(|other| {
+            let b = self.third(node, other);
+            usize::from(b != 0) + usize::from(is_live[b])
+        });
+        let count = self.most_pairs() - taken.sum::<usize>() / 2;
+        Some(Found { least, count })
+    }
 }
 
-/// Writes the plan's steps, and gives how many there are, the rounds and the nodes left.
-pub fn plan(family: Family, k: usize, live: &[u8; 256], out: &mut [u8]) -> [usize; 3] {
-    let planner = Planner::new(family, k);
-    let mut live = live.map(|mark| mark == 1);
-    let mut steps = Vec::with_capacity(4 * planner.n);
-    let mut rounds = 0;
-    loop {
-        let began = live;
-        let before = steps.len();
-        for node in (1..=planner.n).filter(|&node| !began[node]) {
-            if let Some([smaller, larger]) = planner.pair_for(node, &began) {
-                steps.extend([rounds + 1, node, smaller, larger].map(|number| number as u8));
-                live[node] = true;
-            }
+/// Node numbers, rising, the first so many of an array.
+struct List {
+    numbers: [u8; 256],
+    len: u8,
+}
+
+impl List {
+    /// The nodes with this mark.
+    fn of(wanted: bool, is_live: &[bool; 256], n: usize) -> List {
+        let (mut numbers, mut len) = ([0; 256], 0);
+        for (i, &live) in is_live[1..=n].iter().enumerate() {
+            // without a branch: a number that is not wanted is written over by the next
+            numbers[usize::from(len)] = i as u8 + 1;
+            len += u8::from(live == wanted);
         }
-        if steps.len() == before {
+        List { numbers, len }
+    }
+
+    fn nodes(&self) -> impl Iterator<Item = usize> {
+        let numbers = &self.numbers[..self.len.into()];
+        numbers.iter().map(|&node| node.into())
+    }
+}
+
+fn live_are_fewer(is_live: &[bool; 256], n: usize) -> bool {
+    let live = is_live[1..=n].iter().filter(|&&live| live).count();
+    live <= n - live
+}
+
+/// How many steps a plan has, its rounds and the nodes left.
+pub type Counts = [usize; 3];
+
+/// A plan that is being made.
+struct Plan {
+    steps: Vec<u8>,
+    rounds: usize,
+    live: [bool; 256],
+}
+
+impl Plan {
+    fn add(&mut self, node: usize, [smaller, larger]: [usize; 2]) {
+        let step = [self.rounds + 1, node, smaller, larger];
+        self.steps.extend(step.map(|number| number as u8));
+        self.live[node] = true;
+    }
+}
+
+/// Writes the steps that rounds add, until one adds none.
+fn plan_by(n: usize, live: &[u8; 256], out: &mut [u8], mut round: impl FnMut(&mut Plan)) -> Counts {
+    let mut plan = Plan {
+        steps: Vec::with_capacity(4 * n),
+        rounds: 0,
+        live: live.map(|mark| mark == 1),
+    };
+    loop {
+        let before = plan.steps.len();
+        round(&mut plan);
+        if plan.steps.len() == before {
             break;
         }
-        rounds += 1;
+        plan.rounds += 1;
     }
+    let Plan {
+        steps,
+        rounds,
+        live,
+    } = plan;
     out[..steps.len()].copy_from_slice(&steps);
-    let left = live[1..=planner.n].iter().filter(|&&live| !live).count();
+    let left = live[1..=n].iter().filter(|&&live| !live).count();
     [steps.len() / 4, rounds, left]
+}
+
+/// Writes the plan's steps, each found with the number of pairs that its node has when the round begins; gives the sum of these too.
+pub fn plan(family: Family, k: usize, live: &[u8; 256], out: &mut [u8]) -> (Counts, usize) {
+    let planner = Planner::new(family, k);
+    let mut pairs = 0;
+    let counts = plan_by(planner.n, live, out, |plan| {
+        let began = plan.live;
+        // the shorter list, made once for all nodes of the round
+        let by_live = live_are_fewer(&began, planner.n);
+        let list = List::of(by_live, &began, planner.n);
+        for node in (1..=planner.n).filter(|&node| !began[node]) {
+            let found = match by_live {
+                true => planner.pairs_by_live(node, &began, list.nodes()),
+                false => planner.pairs_by_missing(node, &began, list.nodes()),
+            };
+            if let Some(Found { least, count }) = found {
+                plan.add(node, least);
+                pairs += count;
+            }
+        }
+    });
+    (counts, pairs)
+}
+
+/// Writes the plan's steps by a search that ends with the pair.
+pub fn plan_by_pairs(family: Family, k: usize, live: &[u8; 256], out: &mut [u8]) -> Counts {
+    let planner = Planner::new(family, k);
+    plan_by(planner.n, live, out, |plan| {
+        let began = plan.live;
+        for node in (1..=planner.n).filter(|&node| !began[node]) {
+            if let Some(pair) = planner.pair_for(node, &began) {
+                plan.add(node, pair);
+            }
+        }
+    })
+}
+
+/// The least pair of a node, and how many it has, zeros where there are none; nothing where a mark is no mark, or live for 0 or above
+/// n, or there is no such node. A call of its own, as the library's is.
+#[inline(never)]
+pub fn pairs(planner: &Planner, marks: &[u8; 256], node: usize) -> Option<[usize; 3]> {
+    if !are_marks(planner.n, marks) || node == 0 || node > planner.n {
+        return None;
+    }
+    let mut is_live = marks.map(|mark| mark == 1);
+    // it is in none of its pairs, so that its own mark plays no part
+    is_live[node] = false;
+    let nodes = 1..planner.n + 1;
+    let found = match live_are_fewer(&is_live, planner.n) {
+        true => planner.pairs_by_live(node, &is_live, nodes.filter(|&node| is_live[node])),
+        false => planner.pairs_by_missing(node, &is_live, nodes.filter(|&node| !is_live[node])),
+    };
+    Some(found.map_or([0; 3], |Found { least, count }| [least[0], least[1], count]))
 }
 
 /// The column of a weight-two node, by branches: a data block is told from a pair, and a pair's row is looked for.

@@ -21,7 +21,7 @@ impl Line {
     fn text(&self, one_in: usize) -> String {
         let time = |of_way: &Vec<f64>| of_way[of_way.len() / one_in];
         let times: Vec<f64> = self.measured.iter().map(time).collect();
-        let mut text = format!("{:<22}", self.name);
+        let mut text = format!("{:<23}", self.name);
         for time in &times {
             text += &format!(" {time:>9.2}");
         }
@@ -37,7 +37,7 @@ impl Line {
 
 impl Table {
     pub fn print(&self, one_in: usize) {
-        let mut head = format!("{:<22}", self.title);
+        let mut head = format!("{:<23}", self.title);
         for way in self.ways {
             head += &format!(" {way:>9}");
         }
@@ -58,14 +58,14 @@ impl Table {
             .filter(|(_, way)| way.starts_with("Rust"))
             .map(|(i, way)| (i, *way))
             .collect();
-        let mut head = format!("{:<22} {:>10}", self.title, self.ways[0]);
+        let mut head = format!("{:<23} {:>10}", self.title, self.ways[0]);
         for (_, way) in &in_rust {
             head += &format!(" {way:>10} {:>12}", format!("/ {way}"));
         }
         println!("{head}");
         for line in &self.lines {
             let count = |i: usize| line.measured[i][0];
-            let mut text = format!("{:<22} {:>10}", line.name, count(0));
+            let mut text = format!("{:<23} {:>10}", line.name, count(0));
             for &(i, _) in &in_rust {
                 text += &format!(" {:>10} {:>12.2}", count(i), count(0) / count(i));
             }
