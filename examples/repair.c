@@ -1,6 +1,6 @@
 /*
- * An object is stored as a box that keeps three of its seven nodes; the others are planned and repaired, the reads that this took are
- * printed, and all seven are put away and the object read out. It is C99 and C++ alike. Where the library is installed:
+ * An object is stored as a box that keeps three of its seven nodes; the others are planned and repaired, the reads that this took and
+ * the pairs of the node that was read most are printed, and all seven are put away and the object read out. It is C99 and C++ alike. Where the library is installed:
  *
  *   cc -std=c99 repair.c $(pkg-config --cflags --libs mogtriz) -o repair && ./repair
  */
@@ -113,6 +113,14 @@ static void print_reads(mogtriz_session session)
     printf("\n");
 }
 
+/* A node that is much asked for can be read as the XOR of a pair's blocks, while its own drive rests. */
+static void print_pairs(mogtriz_session session, size_t node)
+{
+    mogtriz_pairs_found found = mogtriz_pairs(session, node);
+    expect_served("pairs", found.refusal);
+    printf("node %zu can be read through %zu pairs, the least %zu and %zu\n", node, found.count, found.smaller, found.larger);
+}
+
 /* The box of every live node: all of them are named, as an empty list would give an empty box. */
 static void put_away(mogtriz_session session, buffer nodes)
 {
@@ -152,6 +160,7 @@ int main(void)
     print_plan(session);
     session = repair(session, nodes);
     print_reads(session);
+    print_pairs(session, 7);
     put_away(session, nodes);
     buffer again = read_out(session, nodes);
     int same = again.length == object_len && memcmp(again.bytes, object, object_len) == 0;

@@ -1,7 +1,7 @@
 //! The example of examples/repair.c in Rust; both print the same lines. An object is stored as a box that keeps three of its
-//! seven nodes, the others are planned and repaired, the reads that this took are printed, and all seven are put away and the object
-//! read out.
-use mogtriz::{Refusal, SIMPLEX, Session, Step};
+//! seven nodes, the others are planned and repaired, the reads that this took and the pairs of the node that was read most are
+//! printed, and all seven are put away and the object read out.
+use mogtriz::{Pairs, Refusal, SIMPLEX, Session, Step};
 
 const K: usize = 3;
 const LEN: usize = 8;
@@ -20,6 +20,7 @@ fn main() -> Result<(), Refusal> {
         run.steps, run.rounds, run.left
     );
     print_reads(&session);
+    print_pairs(&session, 7)?;
 
     // every live node is named: an empty list would give an empty box
     let list = session.live_nodes_to_vec()?;
@@ -70,6 +71,15 @@ fn print_reads(session: &Session) {
         .map(|(node, count)| format!("{count} of node {node}"))
         .collect();
     println!("reads in {} steps: {}", session.steps(), read.join(", "));
+}
+
+/// A node that is much asked for can be read as the XOR of a pair's blocks, while its own drive rests.
+fn print_pairs(session: &Session, node: usize) -> Result<(), Refusal> {
+    let Pairs { least, count } = session.pairs(node)?;
+    if let Some([smaller, larger]) = least {
+        println!("node {node} can be read through {count} pairs, the least {smaller} and {larger}");
+    }
+    Ok(())
 }
 
 fn print_plan(session: &Session) -> Result<(), Refusal> {
