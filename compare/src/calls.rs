@@ -1,5 +1,5 @@
 //! One call made of the library and of the papers' model: what it gives and every byte lent have to agree.
-//! Each function gives the call's number; those that go on from a session give the answer. As the Rust package leaves out a
+//! Each function gives the call's number; step, run, plan and pairs give the answer. As the Rust package leaves out a
 //! part of each answer, every call is made of C besides: it writes the same bytes again.
 use crate::guarded::Guarded;
 use crate::interleaving::Interleaving;

@@ -279,9 +279,9 @@ fn with_all_nodes_live_every_node_has_as_many_pairs() {
 /// Family and k, the live nodes, and the nodes with a pair: node, smaller, larger, count.
 type Row = ((usize, usize), &'static [u8], &'static [[usize; 4]]);
 
-/// The lettered examples b, d, e, f, g, h and j, counted by hand; and document 01's box with node 6 added, so that pairs are lost and a
-/// live node has some.
-const COUNTED: [Row; 9] = [
+/// The lettered examples b, d, e, f, g, h and j, counted by hand; b once two of its nodes are repaired; and weight-two 3 with all nodes
+/// live.
+const COUNTED: [Row; 10] = [
     (
         (1, 3),
         &[4, 5, 7],
@@ -289,8 +289,16 @@ const COUNTED: [Row; 9] = [
     ),
     (
         (1, 3),
-        &[4, 5, 6, 7],
-        &[[1, 4, 5, 2], [2, 4, 6, 2], [3, 4, 7, 2]],
+        &[1, 2, 4, 5, 7],
+        &[
+            [1, 4, 5, 1],
+            [2, 5, 7, 1],
+            [3, 1, 2, 2],
+            [4, 1, 5, 1],
+            [5, 1, 4, 2],
+            [6, 1, 7, 2],
+            [7, 2, 5, 1],
+        ],
     ),
     (
         (1, 3),
@@ -299,6 +307,18 @@ const COUNTED: [Row; 9] = [
     ),
     ((2, 3), &[4, 6], &[[5, 4, 6, 1]]),
     ((2, 3), &[1, 4, 6], &[[2, 1, 4, 1], [5, 4, 6, 1]]),
+    (
+        (2, 3),
+        &[1, 2, 3, 4, 5, 6],
+        &[
+            [1, 2, 4, 2],
+            [2, 1, 4, 2],
+            [3, 1, 5, 2],
+            [4, 1, 2, 2],
+            [5, 1, 3, 2],
+            [6, 2, 3, 2],
+        ],
+    ),
     (
         (3, 4),
         &[1, 2, 3, 4],
