@@ -1,6 +1,6 @@
 //! The library's work in safe Rust: encoding and repairs, with a block XOR of the caller's choice, interleaving, the bodies of a
-//! box, the list of the live nodes, planning, the pairs of a node, and relations. Which blocks go where is worked out beforehand, so that a rival's time is
-//! that of the blocks alone; a planner works out all of it in the call.
+//! box, the list of the live nodes, planning, the pairs of a node, and relations. Which blocks go where is worked out beforehand, so
+//! that a rival's time is that of the blocks alone; a planner works out all of it in the call.
 use std::fmt::Display;
 
 /// The families that are timed, with their numbers.
