@@ -14,11 +14,13 @@ use Rattle.repair.specs.declared.Stepped.{Stepped}
 use Rattle.repair.specs.declared.Repairs.{Repairs}
 use Rattle.repair.specs.declared.Written.{Written}
 use Rattle.repair.specs.declared.ReadOut.{ReadOut}
+use Rattle.repair.specs.declared.PairsFound.{PairsFound}
 use Rattle.repair.specs.Step.{stepChecks, stepped}
 use Rattle.repair.specs.Repairs.{refusedRepairs, planChecks, planned, ran}
 use Rattle.repair.specs.Boxed.{refusedWrite, writeChecks, written}
 use Rattle.repair.specs.LiveNodes.{liveChecks, liveListed}
 use Rattle.repair.specs.ReadOut.{readOutChecks, readOut}
+use Rattle.repair.specs.Pairs.{pairsChecks, refusedPairs, pairsFound}
 use Rattle.repair.specs.Session.{nodesChecks}
 use Rattle.mogtriz.specs.declared.sessions.MarkedSession.{MarkedSession}
 use Rattle.mogtriz.specs.Sessions.{someAbove1, sessionForC}
@@ -89,3 +91,7 @@ module _ (s : Session) where
   pub read-out-kept : (nodes object : List ℕ) → readOut s nodes object .session ≡ s
   unfolding readOut
   read-out-kept nodes object = answer-either (readOutChecks s nodes object) _ (refusedOut s) (λ (r : ReadOut). r .session ≡ s) refl (λ n. refl)
+
+  pub pairs-kept : (j : ℕ) → pairsFound s j .session ≡ s
+  unfolding pairsFound
+  pairs-kept j = answer-either (pairsChecks s j) _ (refusedPairs s) (λ (r : PairsFound). r .session ≡ s) refl (λ n. refl)

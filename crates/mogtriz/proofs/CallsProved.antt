@@ -64,6 +64,7 @@ agree-not-13 s t =
       write = λ nodes list out. rw (a .write nodes list out) (t .write nodes list out);
       live = λ out. rw (a .live out) (t .live out);
       read-out = λ nodes object. rw (a .read-out nodes object) (t .read-out nodes object);
+      pairs = λ j. rw (a .pairs j) (t .pairs j);
     }
 
 pub counted-c-claim : CountedCClaim

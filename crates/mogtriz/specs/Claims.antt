@@ -31,13 +31,14 @@ use Rattle.repair.specs.Boxed.{readBox, nodesRead, written, outWritten}
 use Rattle.repair.specs.LiveNodes.{liveListed, outListed}
 use Rattle.repair.specs.ReadOut.{missingIn, readOut, objectOut}
 use Rattle.repair.specs.Step.{stepped, nodesStepped}
+use Rattle.repair.specs.Pairs.{pairsFound}
 use Rattle.repair.specs.Repairs.{planned, outPlanned, ran, nodesRan}
 use Rattle.repair.specs.Calls.{Move, run, State, Call, madeAfter, liveAfter, stateAfter}
 use Rattle.repair.specs.RepairClaims.{LiveAreOwn}
 use Rattle.repair.specs.WholeWay.{LowestOpen, NoneOpen, Way, startOf, nodesEncoded}
 use Rattle.mogtriz.specs.declared.sessions.MarkedSession.{MarkedSession}
 use Rattle.mogtriz.specs.Sessions.{someAbove1, sessionForC, sessionOfC, startedC, writtenC, liveListedC, readOutC, partIn}
-use Rattle.mogtriz.specs.Repairs.{steppedC, plannedC, ranC}
+use Rattle.mogtriz.specs.Repairs.{steppedC, plannedC, ranC, pairsFoundC}
 use Rattle.mogtriz.specs.Exports.{nodeCountOr0, columnOr0, nodeOr0, relatedOr0}
 use Rattle.mogtriz.specs.Calls.{calledC, lastSessionC}
 
@@ -73,11 +74,12 @@ pub record HandedBack (s : MarkedSession) : Type 0 where
   -- a step or a run that is accepted gives no byte above 1
   pub step-marks : (nodes : List ℕ) (j a b : ℕ) → steppedC s nodes j a b .refusal ≡ 0 → someAbove1 (steppedC s nodes j a b .session .live) ≡ false
   pub run-marks : (nodes : List ℕ) → ranC s nodes .refusal ≡ 0 → someAbove1 (ranC s nodes .session .live) ≡ false
-  -- plan, write, live nodes and read out give the session as it was handed in, byte for byte, accepted or not
+  -- plan, write, live nodes, read out and pairs give the session as it was handed in, byte for byte, accepted or not
   pub plan : (out : List ℕ) → plannedC s out .session ≡ s
   pub write : (nodes list out : List ℕ) → writtenC s nodes list out .session ≡ s
   pub live : (out : List ℕ) → liveListedC s out .session ≡ s
   pub read-out : (nodes object : List ℕ) → readOutC s nodes object .session ≡ s
+  pub pairs : (j : ℕ) → pairsFoundC s j .session ≡ s
 
 abbrev pub HandedBackClaim : Type 0
 HandedBackClaim = (s : MarkedSession) → HandedBack s
@@ -103,6 +105,8 @@ pub record TurnedAway (s : MarkedSession) : Type 0 where
   pub read-out : (nodes object : List ℕ) → Refused (readOutC s nodes object .refusal)
       → (readOutC s nodes object ≡ record { refusal = readOutC s nodes object .refusal; block = cond (eqb (readOutC s nodes object .refusal) 14) (missingIn (sessionOfC s)) 0; session = s })
       × (objectOut (sessionOfC s) nodes object ≡ object)
+  pub pairs : (j : ℕ) → Refused (pairsFoundC s j .refusal)
+      → pairsFoundC s j ≡ record { refusal = pairsFoundC s j .refusal; smaller = 0; larger = 0; count = 0; session = s }
 
 abbrev pub TurnedAwayClaim : Type 0
 TurnedAwayClaim = (s : MarkedSession) → TurnedAway s
@@ -115,6 +119,7 @@ pub record NumbersC (s : MarkedSession) (So : ℕ → Type 0) : Type 0 where
   pub write : (nodes list out : List ℕ) → So (writtenC s nodes list out .refusal)
   pub live : (out : List ℕ) → So (liveListedC s out .refusal)
   pub read-out : (nodes object : List ℕ) → So (readOutC s nodes object .refusal)
+  pub pairs : (j : ℕ) → So (pairsFoundC s j .refusal)
 
 -- every call gives 13
 abbrev pub ThirteenC : MarkedSession → Type 0
@@ -163,6 +168,11 @@ pub record Agree (s : Session) : Type 0 where
   pub read-out : (nodes object : List ℕ)
       → let own = readOut s nodes object in
       readOutC (sessionForC s) nodes object ≡ record { refusal = own .refusal; block = own .block; session = sessionForC (own .session) }
+  -- mogtriz_pairs
+  pub pairs : (j : ℕ)
+      → let own = pairsFound s j in
+      pairsFoundC (sessionForC s) j
+      ≡ record { refusal = own .refusal; smaller = own .smaller; larger = own .larger; count = own .count; session = sessionForC (own .session) }
 
 abbrev pub AgreeClaim : Type 0
 AgreeClaim = (s : Session) → Agree s

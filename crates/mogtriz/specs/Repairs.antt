@@ -1,4 +1,4 @@
--- What step, plan and run give C: what the session's own give for `sessionOfC`, 13 for a byte above 1 with them, and a session for C.
+-- What step, plan, run and the search for a pair give C: what the session's own give for `sessionOfC`, 13 for a byte above 1 with them, and a session for C.
 -- A lent buffer holds what the own operation leaves.
 use Prim.Native.Nat.{ℕ}
 use mathlib.Core.Bool.{cond}
@@ -8,9 +8,11 @@ use Rattle.repair.specs.declared.Session.{Session}
 use Rattle.repair.specs.declared.Repairs.{Repairs}
 use Rattle.repair.specs.Step.{stepped}
 use Rattle.repair.specs.Repairs.{planned, ran}
+use Rattle.repair.specs.Pairs.{pairsFound}
 use Rattle.mogtriz.specs.declared.sessions.MarkedSession.{MarkedSession}
 use Rattle.mogtriz.specs.declared.repairs.StepAnswer.{StepAnswer}
 use Rattle.mogtriz.specs.declared.repairs.RepairsAnswer.{RepairsAnswer}
+use Rattle.mogtriz.specs.declared.repairs.PairsAnswer.{PairsAnswer}
 use Rattle.mogtriz.specs.Sessions.{sessionForC, sessionOfC}
 
 -- accepted, the next session; refused, the session as handed in
@@ -33,3 +35,9 @@ plannedC s out = repairsC (planned (sessionOfC s) out) s
 -- what a run gives: the plan's steps are made
 unfoldable pub ranC : MarkedSession → List ℕ → RepairsAnswer
 ranC s nodes = let own = ran (sessionOfC s) nodes in repairsC own (handedBack s (own .refusal) (own .session))
+
+-- what the search for a pair of node j gives: the session as handed in
+unfoldable pub pairsFoundC : MarkedSession → ℕ → PairsAnswer
+pairsFoundC s j =
+    let own = pairsFound (sessionOfC s) j in
+    record { refusal = own .refusal; smaller = own .smaller; larger = own .larger; count = own .count; session = s }

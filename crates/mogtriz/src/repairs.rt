@@ -1,5 +1,5 @@
-// Step, plan and run from C. A refusal hands the session back as it came, byte for byte; a step or run that is accepted gives
-// the next one.
+// Step, plan, run and the pairs of a node from C. A refusal hands the session back as it came, byte for byte; a step or run that is
+// accepted gives the next one.
 use crate::sessions::MarkedSession;
 use crate::sessions::marked;
 use repair::Repairs;
@@ -8,7 +8,7 @@ ghost use mathlib.Core.Path.{_≡_};
 ghost use Rattle.repair.specs.Step.{nodesStepped};
 ghost use Rattle.repair.specs.Repairs.{outPlanned, nodesRan};
 ghost use Rattle.mogtriz.specs.Sessions.{sessionOfC};
-ghost use Rattle.mogtriz.specs.Repairs.{handedBack, repairsC, steppedC, plannedC, ranC};
+ghost use Rattle.mogtriz.specs.Repairs.{handedBack, repairsC, steppedC, plannedC, ranC, pairsFoundC};
 
 // C's mogtriz_stepped.
 #[repr(C)]
@@ -24,6 +24,16 @@ pub struct RepairsAnswer {
     pub steps: usize,
     pub rounds: usize,
     pub left: usize,
+    pub session: MarkedSession,
+}
+
+// C's mogtriz_pairs_found.
+#[repr(C)]
+pub struct PairsAnswer {
+    pub refusal: u8,
+    pub smaller: usize,
+    pub larger: usize,
+    pub count: usize,
     pub session: MarkedSession,
 }
 
@@ -91,4 +101,19 @@ pub extern "C" fn mogtriz_run(session: MarkedSession, nodes: &mut [u8]) -> Repai
     let next = ran.session;
     let given = handed_back(session, ran.refusal, next);
     repairs_for_c(ran, given)
+}
+
+// The pair of a node whose smaller node is least, and how many pairs it has.
+#[no_mangle]
+pub extern "C" fn mogtriz_pairs(session: MarkedSession, node: usize) -> PairsAnswer
+    ensures { λ r. ⌜ r ≡ pairsFoundC session node ⌝ }
+{
+    let found = session.session().pairs(node);
+    PairsAnswer {
+        refusal: found.refusal,
+        smaller: found.smaller,
+        larger: found.larger,
+        count: found.count,
+        session: session,
+    }
 }

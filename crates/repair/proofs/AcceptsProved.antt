@@ -11,6 +11,7 @@ use Rattle.blocks.proofs.XorBytes.{length-xorBytes}
 use Rattle.repair.specs.declared.Written.{Written}
 use Rattle.repair.specs.declared.ReadOut.{ReadOut}
 use Rattle.repair.specs.declared.Repairs.{Repairs}
+use Rattle.repair.specs.declared.PairsFound.{PairsFound}
 use Rattle.repair.specs.Session.{nodesChecks}
 use Rattle.repair.specs.Boxed.{refusedWrite, writeChecks, written}
 use Rattle.repair.specs.LiveNodes.{liveListed}
@@ -21,6 +22,7 @@ use Rattle.repair.specs.RepairClaims.{StepKeepsClaim, AcceptsClaim}
 use Rattle.repair.proofs.Refused.{refusedOut}
 use Rattle.repair.proofs.Accepted.{read-out-accepted, write-accepted, list-accepted, step-passed, plan-accepted, run-accepted}
 use Rattle.repair.proofs.LiveListLaws.{accepted-list, live-listed}
+use Rattle.repair.proofs.PairsLaws.{pairs-accepted, pairs-given}
 use Rattle.repair.proofs.StepLaws.{accepted-step, step-blocks}
 use lib.ListN.{length}
 
@@ -49,6 +51,10 @@ accepts-claim s =
       live = λ out. (
         (λ h. let a = accepted-list s out (list-accepted s out h) in (a .sound, a .room)),
         (λ p. ap (λ (r : Written). r .refusal) (sym (live-listed s out (p .0) (p .1) .answer-is))),
+      );
+      pairs = λ j. (
+        (λ h. let a = pairs-accepted s j h in (a .sound, a .node)),
+        (λ p. ap (λ (r : PairsFound). r .refusal) (pairs-given s j (p .0) (p .1))),
       );
       read-out = λ nodes object. (
         (λ h.

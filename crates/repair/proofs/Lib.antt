@@ -3,6 +3,7 @@ pub mod Accepted
 pub mod StartLaws
 pub mod ReadOutLaws
 pub mod LiveListLaws
+pub mod PairsLaws
 pub mod BoxedLaws
 pub mod RoundTripLaws
 pub mod AfterLaws

@@ -21,12 +21,14 @@ use Rattle.repair.specs.Boxed.{checkedBox, readChecks, readBox, nodesRea
 use Rattle.repair.specs.LiveNodes.{liveChecks, liveListed, outListed}
 use Rattle.repair.specs.ReadOut.{readOutChecks, readOut, objectOut}
 use Rattle.repair.specs.Step.{stepChecks, stepped, nodesStepped}
+use Rattle.repair.specs.declared.PairsFound.{PairsFound}
+use Rattle.repair.specs.Pairs.{pairsChecks, refusedPairs, pairsFound}
 use Rattle.repair.specs.Repairs.{refusedRepairs, planChecks, planned, outPlanned, ran, nodesRan}
 use Rattle.repair.specs.Refusals.{RefusalClaim, ThirteenClaim, NotThirteenClaim}
 use Rattle.repair.proofs.Refused.{refusedStep, refusedOut}
 
 pub refusal-claim : RefusalClaim
-unfolding encoded encodeAnswer started checkedBox readBox nodesRead bodyOf written outWritten liveListed outListed readOut objectOut stepped nodesStepped planned outPlanned ran nodesRan
+unfolding encoded encodeAnswer started checkedBox readBox nodesRead bodyOf written outWritten liveListed outListed readOut objectOut pairsFound stepped nodesStepped planned outPlanned ran nodesRan
 refusal-claim =
     record {
       encode = λ family k L object nodes h. after-refused (encodeChecks family k L (length object) (length nodes)) _ nodes h;
@@ -39,6 +41,7 @@ refusal-claim =
       live = λ s out h. refusal-keeps (liveChecks s out) _ (refusedWrite s) (λ (a : Written). a .refusal) (λ n. refl) refl h _ out;
       read-out = λ s nodes object h.
           refusal-keeps (readOutChecks s nodes object) _ (refusedOut s) (λ (a : ReadOut). a .refusal) (λ n. refl) refl h _ object;
+      pairs = λ s j h. refusal-is (pairsChecks s j) _ (refusedPairs s) (λ (a : PairsFound). a .refusal) (λ n. refl) refl h;
       step = λ s nodes j a b h.
           refusal-keeps (stepChecks s nodes j a b) _ (refusedStep s) (λ (a : Stepped). a .refusal) (λ n. refl) refl h _ nodes;
       plan = λ s out h. refusal-keeps (planChecks s out) _ (refusedRepairs s) repairs-number (λ n. refl) refl h _ out;
@@ -52,13 +55,13 @@ refusal-claim =
     repairs-number answer = answer .refusal
 
 pub thirteen-claim : ThirteenClaim
-unfolding nodesChecks firstMet written liveListed readOut stepped planned ran writeChecks liveChecks readOutChecks stepChecks planChecks
+unfolding nodesChecks firstMet written liveListed readOut pairsFound stepped planned ran writeChecks liveChecks readOutChecks pairsChecks stepChecks planChecks
 thirteen-claim s e =
-    record { write = λ nodes list out. rw e; live = λ out. rw e; read-out = λ nodes object. rw e; step = λ nodes j a b. rw e; plan = λ out. rw e; run = λ nodes. rw e }
+    record { write = λ nodes list out. rw e; live = λ out. rw e; read-out = λ nodes object. rw e; pairs = λ j. rw e; step = λ nodes j a b. rw e; plan = λ out. rw e; run = λ nodes. rw e }
 
 -- 13 stands first, and no other check gives it
 pub not-thirteen-claim : NotThirteenClaim
-unfolding nodesChecks written liveListed readOut stepped planned ran writeChecks liveChecks readOutChecks stepChecks planChecks
+unfolding nodesChecks written liveListed readOut pairsFound stepped planned ran writeChecks liveChecks readOutChecks pairsChecks stepChecks planChecks
 not-thirteen-claim s e =
     record {
       write = λ nodes list out.
@@ -69,6 +72,8 @@ not-thirteen-claim s e =
       read-out = λ nodes object.
           never-answered (readOutChecks s nodes object) _ (refusedOut s) (λ (a : ReadOut). a .refusal) (λ n. refl) refl 13 some
           (passed, ((λ t n. omega arith), ((λ t n. omega arith), ((λ t n. omega arith), tt))));
+      pairs = λ j.
+          never-answered (pairsChecks s j) _ (refusedPairs s) (λ (a : PairsFound). a .refusal) (λ n. refl) refl 13 some (passed, ((λ t n. omega arith), tt));
       step = λ nodes j a b.
           never-answered (stepChecks s nodes j a b) _ (refusedStep s) (λ (a : Stepped). a .refusal) (λ n. refl) refl 13 some
           (passed, ((λ t n. omega arith), ((λ t n. omega arith), ((λ t n. omega arith), ((λ t n. omega arith), ((λ t n. omega arith), tt))))));

@@ -3,6 +3,7 @@ pub mod ReadOut
 pub mod Boxed
 pub mod LiveNodes
 pub mod Step
+pub mod Pairs
 pub mod Repairs
 pub mod Inner
 pub mod Calls

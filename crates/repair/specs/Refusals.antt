@@ -17,6 +17,7 @@ use Rattle.repair.specs.Boxed.{checkedBox, readBox, nodesRead, written, 
 use Rattle.repair.specs.LiveNodes.{liveListed, outListed}
 use Rattle.repair.specs.ReadOut.{missingIn, readOut, objectOut}
 use Rattle.repair.specs.Step.{stepped, nodesStepped}
+use Rattle.repair.specs.Pairs.{pairsFound}
 use Rattle.repair.specs.Repairs.{planned, outPlanned, ran, nodesRan}
 
 -- the number is a refusal's
@@ -52,6 +53,9 @@ pub record RefusalClaim : Type 0 where
   pub read-out : (s : Session) (nodes object : List ℕ) → Refused (readOut s nodes object .refusal)
       → (readOut s nodes object ≡ record { refusal = readOut s nodes object .refusal; block = cond (eqb (readOut s nodes object .refusal) 14) (missingIn s) 0; session = s })
       × (objectOut s nodes object ≡ object)
+  -- a search for a pair gives zeros
+  pub pairs : (s : Session) (j : ℕ) → Refused (pairsFound s j .refusal)
+      → pairsFound s j ≡ record { refusal = pairsFound s j .refusal; smaller = 0; larger = 0; count = 0; session = s }
   -- a step leaves the nodes buffer, and so does a run; a plan leaves its destination
   pub step : (s : Session) (nodes : List ℕ) (j a b : ℕ) → Refused (stepped s nodes j a b .refusal)
       → (stepped s nodes j a b ≡ record { refusal = stepped s nodes j a b .refusal; session = s }) × (nodesStepped s nodes j a b ≡ nodes)
@@ -65,6 +69,7 @@ pub record Numbers (s : Session) (So : ℕ → Type 0) : Type 0 where
   pub write : (nodes list out : List ℕ) → So (written s nodes list out .refusal)
   pub live : (out : List ℕ) → So (liveListed s out .refusal)
   pub read-out : (nodes object : List ℕ) → So (readOut s nodes object .refusal)
+  pub pairs : (j : ℕ) → So (pairsFound s j .refusal)
   pub step : (nodes : List ℕ) (j a b : ℕ) → So (stepped s nodes j a b .refusal)
   pub plan : (out : List ℕ) → So (planned s out .refusal)
   pub run : (nodes : List ℕ) → So (ran s nodes .refusal)

@@ -20,6 +20,7 @@ use Rattle.repair.specs.Session.{afresh, Arrays, nodeCountOf, unsound}
 use Rattle.repair.specs.Boxed.{writtenLength, written}
 use Rattle.repair.specs.LiveNodes.{liveNodesOf, liveListed}
 use Rattle.repair.specs.Step.{namedStep, stepped, nodesStepped}
+use Rattle.repair.specs.Pairs.{pairsFound}
 use Rattle.repair.specs.Repairs.{planIn, planned, outPlanned, ran, nodesRan}
 use Rattle.repair.specs.ReadOut.{missingIn, readOut, objectOut}
 use Rattle.repair.specs.Calls.{Move, step, run, called, stateAfter}
@@ -39,7 +40,7 @@ abbrev pub StepKeepsClaim : Type 0
 StepKeepsClaim = (s : Session) (nodes : List ℕ) (j a b : ℕ) → stepped s nodes j a b .refusal ≡ 0
     → (i : ℕ) → IsNode (familyOf (s .family)) (s .k) i → (i ≡ j → ⊥) → blockOf (s .len) (nodesStepped s nodes j a b) i ≡ blockOf (s .len) nodes i
 
--- ---- plan, run, write, the live nodes and read out
+-- ---- plan, run, write, the live nodes, read out and pairs
 
 -- the session is sound, and the nodes buffer is n × L bytes
 abbrev pub Suits : Session → List ℕ → Type 0
@@ -55,6 +56,8 @@ pub record Accepts (s : Session) : Type 0 where
       ↔ (Suits s nodes × (someOutside (nodeCountOf s) list ≡ false) × (rises list ≡ true) × (someMissing (s .live) list ≡ false) × (writtenLength s list ≤ length out))
   -- a list of the live nodes: the buffer has a byte for each
   pub live : (out : List ℕ) → (liveListed s out .refusal ≡ 0) ↔ ((unsound s ≡ false) × (length (liveNodesOf s) ≤ length out))
+  -- a search for a pair: the number is a node's
+  pub pairs : (j : ℕ) → (pairsFound s j .refusal ≡ 0) ↔ ((unsound s ≡ false) × IsNode (familyOf (s .family)) (s .k) j)
   -- read out: the object is k × L bytes, and no data block's node is missing
   pub read-out : (nodes object : List ℕ) → (readOut s nodes object .refusal ≡ 0) ↔ (Suits s nodes × (length object ≡ s .k * s .len) × (missingIn s ≡ 0))
 

@@ -3,6 +3,7 @@ mod boxed;
 mod by_pairs;
 mod live;
 mod out;
+mod pairs;
 mod start;
 mod step;
 
@@ -66,6 +67,16 @@ pub struct Repairs {
     pub steps: usize,
     pub rounds: usize,
     pub left: usize,
+    pub session: Session,
+}
+
+// What a search for a pair gives: the pair, smaller node first, and how many pairs the node has, zeros where it has none; or the
+// refusal's number and zeros.
+pub struct PairsFound {
+    pub refusal: u8,
+    pub smaller: usize,
+    pub larger: usize,
+    pub count: usize,
     pub session: Session,
 }
 

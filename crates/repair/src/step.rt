@@ -7,7 +7,7 @@ ghost use Rattle.base.specs.Ranges.{outside};
 ghost use Rattle.repair.specs.Step.{stepChecks, stepped, nodesStepped};
 
 // Whether a node number is 0 or above n.
-fn is_outside(n: usize, j: usize) -> bool
+pub fn is_outside(n: usize, j: usize) -> bool
     ensures { λ r. ⌜ r ≡ outside 1 n j ⌝ }
 {
     if j < 1 {
