@@ -10,3 +10,4 @@ pub mod EachLaws
 pub mod ListedLaws
 pub mod OneLaws
 pub mod SearchLaws
+pub mod Proved

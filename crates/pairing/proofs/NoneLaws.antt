@@ -56,6 +56,14 @@ module _ (f : Family) (k : ℕ) (marks : List Bool) (j : ℕ) where
       let least = sum-least (λ x. cond (isLive marks x) (length (larger x)) 0) 1 (nodeCount f k) a (g .from) (g .below) in
       omega (arith, count-sums f k marks j, rw live at least, one)
 
+  -- and the other way round
+  pub some-count : 1 ≤ pairCount f k marks j → 1 ≤ smallerNode f k marks j
+  some-count h = go (eq-zero-or-pos (smallerNode f k marks j))
+    where
+      go : (smallerNode f k marks j ≡ 0) ⊎ (0 < smallerNode f k marks j) → 1 ≤ smallerNode f k marks j
+      go (inl z) = absurd (omega (arith, count-none z))
+      go (inr l) = l
+
   pub none-count : pairCount f k marks j ≡ 0 → smallerNode f k marks j ≡ 0
   none-count e = go (eq-zero-or-pos (smallerNode f k marks j))
     where

@@ -6,6 +6,7 @@ use mathlib.Core.Bool.{Bool, true, false, cond, _&&_}
 use mathlib.Core.List.{List, [], _∷_}
 use Prim.Native.Nat.{ℕ, zero, suc, _+_, _-_, _≤_, _<_}
 use mathlib.Core.Logic.{_⊎_, inl, inr}
+use native.Mathlib.Decide.{decLt}
 use native.Mathlib.Nat.{eq-zero-or-pos}
 use native.Mathlib.Numerals.{add-one}
 use native.Mathlib.Omega.{arith}
@@ -24,7 +25,7 @@ use Rattle.base.proofs.First.{first-of, first-none, first-least, found}
 use Rattle.families.proofs.Laws.{few, node-is, node-of, related-differ, related-turn, related-swap}
 use Rattle.families.proofs.TableLaws.{table-at}
 use Rattle.lists.specs.Lists.{isLive, liveNodes}
-use Rattle.pairing.specs.Pairs.{largerNode, smallerNode, pairCount, pairsOf}
+use Rattle.pairing.specs.Pairs.{largerNode, smallerNode, pairCount, pairsOf, LiveNode}
 use Rattle.pairing.specs.Inner.{thirdNode, livePartner}
 
 -- ---- the node related to two others
@@ -256,6 +257,28 @@ module _ (f : Family) (k : ℕ) (r : KInRange f k) (marks : List Bool) (j : ℕ)
   pub pairs-are : 1 ≤ small → pairsOf f k marks j ≡ record { smaller = small; larger = large; count = pairCount f k marks j }
   unfolding pairsOf
   pairs-are h = rw (ne-eqb small 0 (λ z. omega arith))
+
+-- ---- two live nodes related to a node give it a pair
+
+module _ (f : Family) (k : ℕ) (marks : List Bool) (j : ℕ) where
+  -- of which the smaller node is not above theirs
+  pub smaller-least : (a b : ℕ) → LiveNode f k marks a → LiveNode f k marks b → a < b → areRelated f k a b j ≡ true
+      → (1 ≤ smallerNode f k marks j) × (smallerNode f k marks j ≤ a)
+  unfolding smallerNode largerNode
+  smaller-least a b la lb l h =
+      let above : 1 ≤ largerNode f k marks j a =
+      first-least (λ x. isLive marks x && areRelated f k a x j) (suc a) (nodeCount f k - a) b (omega arith) l (omega (arith, lb .node .last)) (and-both (isLive marks b) (areRelated f k a b j) (lb .live) h) .0 in
+      first-least (λ x. isLive marks x && hasLarger f k marks j x) 1 (nodeCount f k) a (omega arith) (la .node .first) (omega (arith, la .node .last))
+      (and-both (isLive marks a) (hasLarger f k marks j a) (la .live) (lt-ltb 0 (largerNode f k marks j a) above))
+
+  -- in either order
+  pub smaller-some : KInRange f k → IsNode f k j → (a b : ℕ) → LiveNode f k marks a → LiveNode f k marks b → areRelated f k a b j ≡ true → 1 ≤ smallerNode f k marks j
+  smaller-some r n a b la lb h = go (decLt a b) (decLt b a)
+    where
+      go : Dec (a < b) → Dec (b < a) → 1 ≤ smallerNode f k marks j
+      go (yes l) d = smaller-least a b la lb l h .0
+      go (no c) (yes l) = smaller-least b a lb la l (related-swap f k a b j h) .0
+      go (no c) (no d) = absurd (related-differ f k r a b j n h (omega arith))
 
 -- ---- the next number that passes a test
 
