@@ -1,6 +1,6 @@
 -- The claims of specs/Claims.antt.
 -- Assumes nothing.
-use mathlib.Core.Path.{_≡_}
+use mathlib.Core.Path.{_≡_, ap}
 use mathlib.Core.Bool.{true}
 use Prim.Native.Nat.{ℕ}
 use native.Mathlib.Omega.{arith}
@@ -10,9 +10,13 @@ use Rattle.families.specs.Families.{nodeCount}
 use Rattle.families.proofs.Laws.{few}
 use Rattle.lists.specs.Lists.{isLive}
 use Rattle.counts.proofs.Laws.{sum-all}
-use Rattle.planning.specs.Claims.{PlanClaim, ReadsClaim, LiveReadsClaim}
-use Rattle.planning.specs.Plan.{sourcesOf, timesRead, planOf, wavesOf}
-use Rattle.planning.proofs.MakeLaws.{make-counts, left-few}
+use Rattle.pairing.proofs.PairLaws.{smaller-some}
+use Rattle.pairing.proofs.NoneLaws.{count-some, some-count}
+use Rattle.planning.specs.Claims.{PlanClaim, FirstRoundClaim, ReadsClaim, LiveReadsClaim}
+use Rattle.planning.specs.Plan.{Step, sourcesOf, timesRead, planOf, wavesOf}
+use Rattle.planning.proofs.MakeLaws.{make-counts, left-few, pair-repairs}
+use Rattle.planning.proofs.RepairedLaws.{repaired-pair}
+use Rattle.planning.proofs.WaveLaws.{afterWaves, Turn, turn-step, step-turn, first-step, waves-only, waves-get}
 use Rattle.planning.proofs.SourceLaws.{length-sources, sources-inside, reads-are, times-few}
 use Rattle.planning.proofs.PlanLaws.{rounds-end, rounds-make, rounds-quiet, rounds-enough}
 
@@ -27,6 +31,25 @@ plan-claim f k range marks size =
       ended = rounds-end f k marks;
       enough = λ m h. rounds-enough f k range n m marks size 1 (left-few marks n) h;
       counts = make-counts f k range marks size (planOf f k marks) makes;
+    }
+
+pub first-round-claim : FirstRoundClaim
+unfolding wavesOf afterWaves
+first-round-claim f k range marks size =
+    record {
+      repaired = λ j. (
+        (λ h.
+            let t = step-turn f k range (nodeCount f k) 1 marks size j 1 h in
+            let e : t .after ≡ 0 = omega (arith, t .is) in
+            let turn : Turn f k marks 0 j = rw e at (t .turn) in
+            let p = waves-only f k range marks 0 j (turn .missing) (turn .live) in
+            (turn .node, turn .missing, count-some f k marks j (smaller-some f k marks j range (turn .node) (p .one) (p .other) (p .one-live) (p .other-live) (p .related)))),
+        (λ h.
+            let p = repaired-pair f k range marks j (pair-repairs f k marks j (h .1) (some-count f k marks j (h .2))) in
+            turn-step f k (nodeCount f k) 1 marks 0 j (omega (arith, h .0 .first, h .0 .last)) (record { node = h .0; missing = h .1; live = waves-get f k range marks size 0 j (h .0) p })),
+      );
+      smaller = λ step h e. ap (λ (step : Step). step .smaller) (first-step f k range (nodeCount f k) 1 marks size step h e);
+      larger = λ step h e. ap (λ (step : Step). step .larger) (first-step f k range (nodeCount f k) 1 marks size step h e);
     }
 
 pub reads-claim : ReadsClaim

@@ -160,6 +160,28 @@ module _ (f : Family) (k : ℕ) where
             let t = later (record { step = h .step; listed = q; node = h .node; round = h .round }) in
             record { after = suc (t .after); is = omega (arith, t .is); turn = later-turn marks (t .after) j (rw (round-marks marks r) at (t .turn)) }
 
+    -- the steps of round r are those of the first round
+    pub first-steps : (m r : ℕ) (marks : List Bool) → length marks ≡ 256 → (step : Step) → List·Memᴰ step (roundsFrom f k r marks m) → step .round ≡ r
+        → List·Memᴰ step (roundSteps f k marks r)
+    unfolding roundsFrom
+    first-steps zero r marks size step h e = absurd (List·Memᴰ·not-nil h)
+    first-steps (suc m) r marks size step h e = go (List·Memᴰ·append-cases (roundSteps f k marks r) h)
+      where
+        next : List Bool
+        next = marksAfter marks (roundSteps f k marks r)
+
+        go : List·Memᴰ step (roundSteps f k marks r) ⊎ List·Memᴰ step (roundsFrom f k (suc r) (marksAfter marks (roundSteps f k marks r)) m) → List·Memᴰ step (roundSteps f k marks r)
+        go (inl q) = q
+        go (inr q) =
+            let t = step-turn m (suc r) next (length-setLive marks _ ∙ size) (step .node) r (record { step = step; listed = q; node = refl; round = e }) in
+            absurd (omega (arith, t .is))
+
+    -- and each of them is that of its node
+    pub first-step : (m r : ℕ) (marks : List Bool) → length marks ≡ 256 → (step : Step) → List·Memᴰ step (roundsFrom f k r marks m) → step .round ≡ r → step ≡ stepOf f k marks r (step .node)
+    first-step m r marks size step h e =
+        let q = Memᴰ·of-map (stepOf f k marks r) (waveNodes marks) (first-steps m r marks size step h e) in
+        sym (q .2) ∙ ap (stepOf f k marks r) (ap (λ (step : Step). step .node) (q .2))
+
 -- a bound of every step's round bounds the last one
 pub last-within : (b : ℕ) (steps : List Step) → ((j r : ℕ) → RepairedIn j r steps → r ≤ b) → lastRound steps ≤ b
 unfolding lastRound getLastD

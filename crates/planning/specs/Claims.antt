@@ -1,15 +1,16 @@
 -- What is proved of every plan besides the contracts; proofs/Proved.antt has the proofs.
 use mathlib.Core.Path.{_≡_}
 use mathlib.Core.Bool.{Bool, true, false}
-use mathlib.Core.List.{List, [], _∷_}
+use mathlib.Core.List.{List, List·Memᴰ, [], _∷_}
+use mathlib.Core.Logic.{_↔_}
 use Prim.Native.Nat.{ℕ, _+_, _*_, _≤_}
 use lib.ListN.{length, set}
 use Rattle.families.specs.declared.Family.{Family}
 use Rattle.families.specs.Families.{KInRange, IsNode, nodeCount, areRelated}
 use Rattle.lists.specs.Lists.{isLive}
 use Rattle.counts.specs.Counts.{countOf, countAll, sumOf}
-use Rattle.pairing.specs.Pairs.{NoPairLeft}
-use Rattle.planning.specs.Plan.{Step, roundSteps, sourcesOf, timesRead, marksAfter, roundsFrom, planOf, nodesLeft}
+use Rattle.pairing.specs.Pairs.{pairCount, pairsOf, NoPairLeft}
+use Rattle.planning.specs.Plan.{Step, RepairedIn, roundSteps, sourcesOf, timesRead, marksAfter, roundsFrom, planOf, nodesLeft}
 
 -- a step that can be made: it names a missing node and two live nodes related to it
 pub record CanMake (f : Family) (k : ℕ) (marks : List Bool) (step : Step) : Type 0 where
@@ -41,6 +42,19 @@ pub record PlanClaims (f : Family) (k : ℕ) (marks : List Bool) : Type 0 where
 
 abbrev pub PlanClaim : Type 0
 PlanClaim = (f : Family) (k : ℕ) → KInRange f k → (marks : List Bool) → length marks ≡ 256 → PlanClaims f k marks
+
+-- ---- round 1
+
+-- of round 1 of the plan from marks
+pub record FirstRoundClaims (f : Family) (k : ℕ) (marks : List Bool) : Type 0 where
+  -- it repairs exactly the missing nodes that have a pair by the count
+  pub repaired : (j : ℕ) → RepairedIn j 1 (planOf f k marks) ↔ (IsNode f k j × (isLive marks j ≡ false) × (1 ≤ pairCount f k marks j))
+  -- and its steps read the pairs that the search gives
+  pub smaller : (step : Step) → List·Memᴰ step (planOf f k marks) → step .round ≡ 1 → step .smaller ≡ pairsOf f k marks (step .node) .smaller
+  pub larger : (step : Step) → List·Memᴰ step (planOf f k marks) → step .round ≡ 1 → step .larger ≡ pairsOf f k marks (step .node) .larger
+
+abbrev pub FirstRoundClaim : Type 0
+FirstRoundClaim = (f : Family) (k : ℕ) → KInRange f k → (marks : List Bool) → length marks ≡ 256 → FirstRoundClaims f k marks
 
 -- ---- reads
 
