@@ -8,7 +8,7 @@ use Prim.Native.Nat.{ℕ}
 use native.Mathlib.Omega.{arith}
 use borrow.Author.Tests.{eqb-true, eqb-false, le-leb}
 use lib.Dec.{eqb}
-use lib.ListN.{length-map, replicate}
+use lib.ListN.{length-map, List·getD-map, replicate}
 use Rattle.checks.specs.Checks.{firstMet}
 use Rattle.families.specs.Families.{familyOf, IsNode, nodeCount, nodeOf}
 use Rattle.checks.specs.Claims.{InRange}
@@ -20,12 +20,13 @@ use Rattle.repair.specs.Session.{started, unsound}
 use Rattle.repair.specs.Boxed.{readBox, nodesRead}
 use Rattle.repair.specs.Claims.{WrittenAgain}
 use Rattle.repair.proofs.Proved.{live-list-claim, read-write-claim}
+use Rattle.repair.proofs.PairsProved.{pairs-claim}
 use Rattle.repair.proofs.RefusalsProved.{refusal-claim, thirteen-claim, not-thirteen-claim}
 use Rattle.mogtriz.specs.declared.sessions.MarkedSession.{MarkedSession}
 use Rattle.mogtriz.specs.Sessions.{markOf, someAbove1, sessionForC, sessionOfC, startedC, writtenC, liveListedC, readOutC, partIn}
 use Rattle.mogtriz.specs.Exports.{nodeCountOr0, isNode, columnOr0, nodeOr0, relatedOr0}
 use Rattle.mogtriz.specs.Repairs.{steppedC, plannedC, ranC, pairsFoundC}
-use Rattle.mogtriz.specs.Claims.{ThereAndBackClaim, BackAndThereClaim, StartedMarksClaim, HandedBackClaim, RefusedStartClaim, TurnedAwayClaim, ThirteenC, ThirteenCClaim, NotThirteenCClaim, listLeftC, LiveListCClaim, WrittenAgainC, ReadWriteCClaim, SameFieldsClaim, PartOf, PartClaim, AnswersClaim, AgreeClaim}
+use Rattle.mogtriz.specs.Claims.{ThereAndBackClaim, BackAndThereClaim, StartedMarksClaim, HandedBackClaim, RefusedStartClaim, TurnedAwayClaim, ThirteenC, ThirteenCClaim, NotThirteenCClaim, listLeftC, PairsC, PairsCClaim, LiveListCClaim, WrittenAgainC, ReadWriteCClaim, SameFieldsClaim, PartOf, PartClaim, AnswersClaim, AgreeClaim}
 use Rattle.mogtriz.proofs.Laws.{count-accepted}
 use Rattle.mogtriz.proofs.MarkLaws.{marks-back, bytes-back, marks-low}
 use Rattle.mogtriz.proofs.AnswerLaws.{kept-session, step-low, run-low, step-done, run-done, handed-on, plan-kept, write-kept, live-kept, read-out-kept, pairs-kept}
@@ -115,6 +116,22 @@ live-list-c-claim s out size h = go (someAbove1 (s .live)) refl
         let own : Session = record { family = s .family; k = s .k; len = s .len; steps = s .steps; live = map markOf (s .live); reads = s .reads } in
         let is : sessionOfC s ≡ own = of-low s e in
         rw is (ap startedC (live-list-claim own out (rw is at h) .start (length-map (s .live) markOf ∙ size)) ∙ rw (bytes-back (s .live) e))
+
+pub pairs-c-claim : PairsCClaim
+unfolding steppedC pairsFoundC
+pairs-c-claim s size j h = go (someAbove1 (s .live)) refl
+  where
+    go : (above : Bool) → someAbove1 (s .live) ≡ above → PairsC s j
+    go true e = absurd (omega (arith, h, thirteen-c-claim s (inl e) .pairs j))
+    go false e =
+        let own : Session = record { family = s .family; k = s .k; len = s .len; steps = s .steps; live = map markOf (s .live); reads = s .reads } in
+        let is : sessionOfC s ≡ own = of-low s e in
+        let claims = pairs-claim own (length-map (s .live) markOf ∙ size) j (rw is at h) in
+        record {
+          all = λ every. rw is (claims .all (λ i n. List·getD-map markOf (s .live) i 0 ∙ rw (every i n)));
+          most = rw is (claims .most);
+          step = λ missing some nodes fits. rw is (claims .step (List·getD-map markOf (s .live) j 0 ∙ rw missing) (rw is at some) nodes fits);
+        }
 
 pub part-claim : PartClaim
 unfolding partIn bodyOf

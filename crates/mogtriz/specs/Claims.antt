@@ -19,7 +19,7 @@ use Rattle.boxes.specs.Box.{kIn, blockLengthIn, namesIn, bodyChecks, bodyOf}
 use Rattle.graded.specs.Order.{columnAt}
 use Rattle.conversion.specs.Converted.{fromGraded, toGraded, converted}
 use Rattle.conversion.specs.Claims.{boxLeft, BodiesBy}
-use Rattle.pairing.specs.Pairs.{NoPairLeft}
+use Rattle.pairing.specs.Pairs.{mostPairs, NoPairLeft}
 use Rattle.planning.specs.Plan.{timesRead}
 use Rattle.leftover.specs.Open.{Open, OpenCount}
 use Rattle.waves.specs.Waves.{mostWaves}
@@ -186,6 +186,20 @@ pub record RoundsC (s : MarkedSession) : Type 0 where
 
 abbrev pub RoundsCClaim : Type 0
 RoundsCClaim = (s : MarkedSession) → length (s .live) ≡ 256 → RoundsC s
+
+-- ---- the pairs of a node
+
+-- of what mogtriz_pairs gives of a node, live or missing
+pub record PairsC (s : MarkedSession) (j : ℕ) : Type 0 where
+  -- with every node's mark 1 the count is (n − 1)/2 for simplex, k − 1 for weight-two and 6 for the tetrahedron, and never more
+  pub all : ((i : ℕ) → IsNode (familyOf (s .family)) (s .k) i → getD (s .live) i 0 ≡ 1) → pairsFoundC s j .count ≡ mostPairs (familyOf (s .family)) (s .k)
+  pub most : pairsFoundC s j .count ≤ mostPairs (familyOf (s .family)) (s .k)
+  -- where it is above 0 and the node's mark is 0, mogtriz_step takes the pair
+  pub step : getD (s .live) j 0 ≡ 0 → 1 ≤ pairsFoundC s j .count → (nodes : List ℕ) → length nodes ≡ nodeCount (familyOf (s .family)) (s .k) * s .len
+      → steppedC s nodes j (pairsFoundC s j .smaller) (pairsFoundC s j .larger) .refusal ≡ 0
+
+abbrev pub PairsCClaim : Type 0
+PairsCClaim = (s : MarkedSession) → length (s .live) ≡ 256 → (j : ℕ) → pairsFoundC s j .refusal ≡ 0 → PairsC s j
 
 -- ---- the live nodes, listed
 

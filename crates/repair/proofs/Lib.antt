@@ -20,3 +20,4 @@ pub mod WholeWayProved
 pub mod RefusalsProved
 pub mod ReadsProved
 pub mod AcceptsProved
+pub mod PairsProved

@@ -10,6 +10,7 @@ pub mod Calls
 pub mod LeftOver
 pub mod Claims
 pub mod RepairClaims
+pub mod PairClaims
 pub mod Refusals
 pub mod Reads
 pub mod WholeWay
