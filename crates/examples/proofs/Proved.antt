@@ -21,7 +21,7 @@ use Rattle.interleaving.specs.Interleaved.{interleaved, deinterleaved, interlea
 use Rattle.interleaving.proofs.Answers.{kept}
 use Rattle.lists.specs.Lists.{someOutside, rises, placeIn, setLive, someMissing, passesOutside}
 use Rattle.counts.specs.Counts.{countOf, countAll, sumOf}
-use Rattle.pairing.specs.Pairs.{largerNode, smallerNode}
+use Rattle.pairing.specs.Pairs.{largerNode, smallerNode, pairCount, pairsOf}
 use Rattle.planning.specs.Plan.{isRepaired, roundsFrom, wavesOf, sourcesOf, marksAfter, stepBytes, lastRound, nodesLeft}
 use Rattle.planning.specs.Made.{stepsIn}
 use Rattle.planning.proofs.RoundLaws.{length-bytes}
@@ -37,6 +37,7 @@ use Rattle.repair.specs.Session.{sessionOf, acceptedStart, started, startChecks
 use Rattle.repair.specs.Boxed.{checkedBox, readChecks, readBox, nodesRead, writeChecks, written, outWritten}
 use Rattle.repair.specs.LiveNodes.{liveChecks, liveListed, outListed}
 use Rattle.repair.specs.Step.{stepChecks, stepped, nodesStepped}
+use Rattle.repair.specs.Pairs.{pairsChecks, pairsFound}
 use Rattle.repair.specs.Repairs.{planIn}
 use Rattle.repair.proofs.StartLaws.{nodes-0}
 use Rattle.repair.proofs.RepairsLaws.{plan-made, run-made}
@@ -44,7 +45,7 @@ use Rattle.repair.proofs.RefusalsProved.{thirteen-claim, not-thirteen-claim}
 use Rattle.repair.proofs.ReadsProved.{not-reached-claim}
 use Rattle.listing.specs.Text.{decimal, field, firstLine, stepLine, lastLine, refusalLine}
 use Rattle.listing.specs.Listing.{answerOf, listingIn, listingOf}
-use Rattle.examples.specs.Examples.{Row, Encodes, Interleaves, InterleaveGives, Plans, MostWaves, Starts, BoxGives, BoxReads, BoxHolds, BoxLacks, BoxSteps, BoxWrites, BoxNames, Converts, ConvertGives, Lists, IsSound, TurnedAway, ServedAnyway, sessionBy, allBut, HasPlan, Holds, Every, table, Examples}
+use Rattle.examples.specs.Examples.{Row, Encodes, Interleaves, InterleaveGives, Plans, Pairs, MostWaves, Starts, BoxGives, BoxReads, BoxHolds, BoxLacks, BoxSteps, BoxWrites, BoxNames, Converts, ConvertGives, Lists, IsSound, TurnedAway, ServedAnyway, sessionBy, allBut, HasPlan, Holds, Every, table, Examples}
 
 -- ---- a plan
 
@@ -116,6 +117,7 @@ Computed (Interleaves family k L object other) =
 Computed (InterleaveGives family k L size room number) = (firstMet (interleaveChecks family k L size room) ≡ number) × (eqb number 0 ≡ false)
 Computed (Plans family k list steps rounds left reads) =
     (firstMet (startChecks family k 1 list) ≡ 0) × (unsound (sessionOf family k 1 list) ≡ false) × HasFigures (sessionOf family k 1 list) steps rounds left reads
+Computed (Pairs family k L list j number smaller larger count) = Holds (Pairs family k L list j number smaller larger count)
 Computed (MostWaves least most rounds) = listFrom (λ i. mostWaves (least + i)) 0 (suc most - least) ≡ replicate (suc most - least) rounds
 Computed (Starts family k L list number) = Holds (Starts family k L list number)
 Computed (BoxGives bytes number) = Holds (BoxGives bytes number)
@@ -159,6 +161,7 @@ holds (InterleaveGives family k L size room number) (is, some) = λ bytes out e 
 holds (Plans family k list steps rounds left reads) (a, start, figures) = λ L h g.
     let same = same-checks family k L h g in
     (rw (same, a), has-plan (sessionOf family k L list) steps rounds left reads (rw same start) figures)
+holds (Pairs family k L list j number smaller larger count) c = c
 holds (MostWaves least most rounds) c = λ k h g.
     let e : k ≡ least + (k - least) = omega arith in
     let l : k - least < suc most - least = omega arith in
@@ -196,7 +199,7 @@ _&_ : {A B : Type 0} → A → B → A × B
 a & b = (a, b)
 
 computed : Every Computed table
-unfolding started refusalLine encodeChecks parameterChecks firstMet nodesBuffer joined nodeBlock columnOf nodeCount xorBytes zipWith startChecks checkedBox boxChecks someOutside rises setLive unsound miscounted passesOutside sumOf countAll sourcesOf wavesOf roundsFrom isRepaired smallerNode largerNode firstFrom areRelated pairAt stepBytes lastRound getLastD nodesLeft thoseFrom someMissing stepsIn placeIn listFrom readBox nodesRead readChecks withBodies withBlock blockOf bodyChecks bodyOf writeChecks nodesChecks written outWritten boxOf flatMap liveChecks liveListed outListed stepChecks stepped nodesStepped listingOf answerOf listingIn firstLine stepLine lastLine field decimal converted outConverted conversionChecks renumbered newNames newBody nodeOf gradedTable below interleaveChecks interleaved deinterleaved
+unfolding started refusalLine encodeChecks parameterChecks firstMet nodesBuffer joined nodeBlock columnOf nodeCount xorBytes zipWith startChecks checkedBox boxChecks someOutside rises setLive unsound miscounted passesOutside sumOf countAll sourcesOf wavesOf roundsFrom isRepaired smallerNode largerNode pairsOf pairCount pairsChecks pairsFound firstFrom areRelated pairAt stepBytes lastRound getLastD nodesLeft thoseFrom someMissing stepsIn placeIn listFrom readBox nodesRead readChecks withBodies withBlock blockOf bodyChecks bodyOf writeChecks nodesChecks written outWritten boxOf flatMap liveChecks liveListed outListed stepChecks stepped nodesStepped listingOf answerOf listingIn firstLine stepLine lastLine field decimal converted outConverted conversionChecks renumbered newNames newBody nodeOf gradedTable below interleaveChecks interleaved deinterleaved
 computed =
     (refl, refl)
     & (refl, λ byte. (refl, refl))
@@ -212,6 +215,7 @@ computed =
     & (λ byte. (refl, refl))
     & (refl, refl, (refl, refl, refl, refl, refl, refl))
     & (refl, refl, (refl, refl, refl, refl, refl, refl))
+    & refl & refl & refl & refl & refl & refl & refl & refl & refl
     & refl & refl & refl & refl & refl
     & (refl, refl, (refl, refl, refl, refl, refl, refl))
     & (refl, refl, refl)

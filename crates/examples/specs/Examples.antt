@@ -1,5 +1,5 @@
--- The lettered examples of document 01, the box that it shows, document 000's examples 2.1 and 3.1, interleaved objects, and sessions by
--- their counts, rows of one table under one statement.
+-- The lettered examples of document 01, the box that it shows, document 000's examples 2.1 and 3.1, interleaved objects, pairs of
+-- nodes, and sessions by their counts, rows of one table under one statement.
 use mathlib.Core.Path.{_≡_}
 use mathlib.Core.Bool.{not}
 use mathlib.Core.List.{List, [], _∷_, _++_}
@@ -21,6 +21,7 @@ use Rattle.repair.specs.Session.{sessionOf, acceptedStart, started, nodeCountOf
 use Rattle.repair.specs.Boxed.{checkedBox, readBox, nodesRead, written, outWritten}
 use Rattle.repair.specs.LiveNodes.{liveListed, outListed}
 use Rattle.repair.specs.Step.{stepped, nodesStepped}
+use Rattle.repair.specs.Pairs.{pairsFound}
 use Rattle.repair.specs.Repairs.{planned, outPlanned, ran, nodesRan}
 use Rattle.repair.specs.Refusals.{Thirteen, NotThirteen}
 use Rattle.repair.specs.Reads.{NotReached}
@@ -40,6 +41,8 @@ pub data Row : Type 0 where
   -- family, k and the live nodes; at every L, the plan's steps, four numbers each, its rounds, the nodes left, and how often a run reads
   -- each number, from 0
   Plans : ℕ → ℕ → List ℕ → List ℕ → ℕ → List ℕ → List ℕ → Row
+  -- family, k, L, the live nodes and a node; the number that the search for its pair gives, the pair, and how many pairs it has
+  Pairs : ℕ → ℕ → ℕ → List ℕ → ℕ → ℕ → ℕ → ℕ → ℕ → Row
   -- two k; from the one to the other, the most waves
   MostWaves : ℕ → ℕ → ℕ → Row
   -- family, k, L and a node list; the number that the start gives
@@ -115,6 +118,9 @@ Holds (InterleaveGives family k L size room number) =
 Holds (Plans family k list steps rounds left reads) =
     (L : ℕ) → 1 ≤ L → L ≤ mostL
     → (started family k L list ≡ acceptedStart (sessionOf family k L list)) × HasPlan (sessionOf family k L list) steps rounds left reads
+-- the session stays
+Holds (Pairs family k L list j number smaller larger count) =
+    let s = sessionOf family k L list in pairsFound s j ≡ record { refusal = number; smaller = smaller; larger = larger; count = count; session = s }
 Holds (MostWaves least most rounds) = (k : ℕ) → least ≤ k → k ≤ most → mostWaves k ≡ rounds
 Holds (Starts family k L list number) = started family k L list .refusal ≡ number
 Holds (BoxGives bytes number) = checkedBox bytes .refusal ≡ number
@@ -197,6 +203,18 @@ table =
     -- j. Simplex 3, none live: steps 0, rounds 0, left 7; all live: left 0, rounds 0
     ∷ Plans 1 3 [] [] 0 (1 ∷ 2 ∷ 3 ∷ 4 ∷ 5 ∷ 6 ∷ 7 ∷ []) []
     ∷ Plans 1 3 (1 ∷ 2 ∷ 3 ∷ 4 ∷ 5 ∷ 6 ∷ 7 ∷ []) [] 0 [] []
+    -- In b's session (document 02, K4): node 1 has the pair 4, 5 alone, node 6 none, and node 4, which is live, none
+    ∷ Pairs 1 3 1 (4 ∷ 5 ∷ 7 ∷ []) 1 0 4 5 1
+    ∷ Pairs 1 3 1 (4 ∷ 5 ∷ 7 ∷ []) 6 0 0 0 0
+    ∷ Pairs 1 3 1 (4 ∷ 5 ∷ 7 ∷ []) 4 0 0 0 0
+    -- With all nodes live there are (n − 1)/2 in simplex, k − 1 in weight-two, 6 in the tetrahedron; one is lost with node 3
+    ∷ Pairs 1 3 1 (1 ∷ 2 ∷ 3 ∷ 4 ∷ 5 ∷ 6 ∷ 7 ∷ []) 5 0 1 4 3
+    ∷ Pairs 1 3 1 (1 ∷ 2 ∷ 4 ∷ 5 ∷ 6 ∷ 7 ∷ []) 5 0 1 4 2
+    ∷ Pairs 2 4 1 (1 ∷ 2 ∷ 3 ∷ 4 ∷ 5 ∷ 6 ∷ 7 ∷ 8 ∷ 9 ∷ 10 ∷ []) 8 0 2 3 3
+    ∷ Pairs 3 4 1 (1 ∷ 2 ∷ 3 ∷ 4 ∷ 5 ∷ 6 ∷ 7 ∷ 8 ∷ 9 ∷ 10 ∷ 11 ∷ 12 ∷ 13 ∷ 14 ∷ []) 1 0 2 6 6
+    -- 0 and 8 are no nodes of simplex 3
+    ∷ Pairs 1 3 1 (4 ∷ 5 ∷ 7 ∷ []) 0 4 0 0 0
+    ∷ Pairs 1 3 1 (4 ∷ 5 ∷ 7 ∷ []) 8 4 0 0 0
     -- At most 1 for k = 2, 2 for 3 and 4, 3 for 5 to 8, 4 for 9 to 16, 5 for 17 to 22 (document 02, K9); a chain of k nodes, weight-two 5
     -- with 1, 6, 10, 13 and 15 live, has so many
     ∷ MostWaves 2 2 1
