@@ -14,11 +14,7 @@ use Rattle.checks.proofs.AnswerLaws.{answer-served, answer-refused, none-met}
 use Rattle.repair.specs.declared.Session.{Session}
 use Rattle.repair.specs.declared.PairsFound.{PairsFound}
 use Rattle.repair.specs.Session.{nodeCountOf, unsound}
-use Rattle.repair.specs.Pairs.{pairsChecks, pairsIn, refusedPairs, pairsFound}
-
--- the pairs of a node, with the session
-abbrev pub servedPairs : Session → ℕ → PairsFound
-servedPairs s j = record { refusal = 0; smaller = pairsIn s j .smaller; larger = pairsIn s j .larger; count = pairsIn s j .count; session = s }
+use Rattle.repair.specs.Pairs.{pairsChecks, servedPairs, refusedPairs, pairsFound}
 
 module _ (s : Session) (j : ℕ) where
   refused : (number : ℕ) → firstMet (pairsChecks s j) ≡ number → (number ≡ 0 → ⊥) → refusedPairs s number ≡ pairsFound s j

@@ -23,14 +23,14 @@ use Rattle.planning.proofs.Proved.{first-round-claim}
 use Rattle.repair.specs.declared.Session.{Session}
 use Rattle.repair.specs.declared.PairsFound.{PairsFound}
 use Rattle.repair.specs.Session.{Arrays, nodeCountOf, unsound}
-use Rattle.repair.specs.Pairs.{pairsIn, pairsFound}
+use Rattle.repair.specs.Pairs.{servedPairs, pairsFound}
 use Rattle.repair.specs.Step.{afterSteps, stepped}
 use Rattle.repair.specs.Repairs.{planIn, ran}
 use Rattle.repair.specs.Calls.{run}
 use Rattle.repair.specs.RepairClaims.{LiveAreOwn}
 use Rattle.repair.specs.PairClaims.{PairsClaims, PairsClaim, RunPairsClaim}
 use Rattle.repair.proofs.StartLaws.{known}
-use Rattle.repair.proofs.PairsLaws.{servedPairs, AcceptedPairs, pairs-accepted, pairs-given}
+use Rattle.repair.proofs.PairsLaws.{pairs-accepted, pairs-given}
 use Rattle.repair.proofs.Accepted.{run-accepted}
 use Rattle.repair.proofs.OwnLaws.{session-ran}
 use Rattle.repair.proofs.AcceptsProved.{accepts-claim}

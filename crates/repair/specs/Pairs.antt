@@ -22,8 +22,11 @@ pairsIn s j = pairsOf (familyOf (s .family)) (s .k) (s .live) j
 abbrev pub refusedPairs : Session → ℕ → PairsFound
 refusedPairs s number = record { refusal = number; smaller = 0; larger = 0; count = 0; session = s }
 
--- what the search gives: the pair and the count, zeros where there is no pair; the session stays
+-- an accepted search: the pair and the count, zeros where there is no pair; the session stays
+abbrev pub servedPairs : Session → ℕ → PairsFound
+servedPairs s j =
+    let pairs = pairsIn s j in record { refusal = 0; smaller = pairs .smaller; larger = pairs .larger; count = pairs .count; session = s }
+
+-- what the search gives
 unfoldable pub pairsFound : Session → ℕ → PairsFound
-pairsFound s j =
-    let pairs = pairsIn s j in
-    answer (pairsChecks s j) (record { refusal = 0; smaller = pairs .smaller; larger = pairs .larger; count = pairs .count; session = s }) (refusedPairs s)
+pairsFound s j = answer (pairsChecks s j) (servedPairs s j) (refusedPairs s)
