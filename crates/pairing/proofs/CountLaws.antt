@@ -26,7 +26,7 @@ use Rattle.lists.specs.Lists.{missingNodes, isLive, liveNodes}
 use Rattle.counts.specs.Counts.{noCounts, countOf, countAll, sumOf}
 use Rattle.lists.proofs.Laws.{those-few}
 use Rattle.counts.proofs.Laws.{count-times}
-use Rattle.pairing.specs.Pairs.{pairCount, mostPairs}
+use Rattle.pairing.specs.Pairs.{relatedAbove, pairCount, mostPairs}
 use Rattle.pairing.specs.Inner.{thirdNode, thirds, withThird}
 use Rattle.pairing.proofs.MostLaws.{thirds-count, all-one}
 use Rattle.pairing.proofs.Thirds.{counted}
@@ -89,7 +89,7 @@ module _ (f : Family) (k : ℕ) (r : KInRange f k) (j : ℕ) (nj : IsNode f k j)
   module _ (kind : ℕ → Bool) where
     -- those above a that are related to a and j: the third node, where it is above
     abbrev above : ℕ → List ℕ
-    above a = thoseFrom (λ b. kind b && areRelated f k a b j) (suc a) (n - a)
+    above a = relatedAbove f k kind j a
 
     -- how many pairs
     unfoldable pub pairsBy : ℕ
@@ -311,11 +311,11 @@ simplex-missing k r j nj missing =
 
 -- the count as a sum over the smaller nodes
 pub count-sums : (f : Family) (k : ℕ) (marks : List Bool) (j : ℕ)
-    → pairCount f k marks j ≡ sumFrom (λ a. cond (isLive marks a) (length (thoseFrom (λ b. isLive marks b && areRelated f k a b j) (suc a) (nodeCount f k - a))) 0) 1 (nodeCount f k)
+    → pairCount f k marks j ≡ sumFrom (λ a. cond (isLive marks a) (length (relatedAbove f k (isLive marks) j a)) 0) 1 (nodeCount f k)
 unfolding pairCount
 count-sums f k marks j =
-    flat-length (λ a. thoseFrom (λ b. isLive marks b && areRelated f k a b j) (suc a) (nodeCount f k - a)) (liveNodes marks (nodeCount f k))
-    ∙ sum-those (λ a. length (thoseFrom (λ b. isLive marks b && areRelated f k a b j) (suc a) (nodeCount f k - a))) (isLive marks) 1 (nodeCount f k)
+    flat-length (relatedAbove f k (isLive marks) j) (liveNodes marks (nodeCount f k))
+    ∙ sum-those (λ a. length (relatedAbove f k (isLive marks) j a)) (isLive marks) 1 (nodeCount f k)
 
 -- the count of the definition
 pub count-is : (f : Family) (k : ℕ) (r : KInRange f k) (marks : List Bool) (j : ℕ) (nj : IsNode f k j) → pairCount f k marks j ≡ pairsBy f k r j nj (isLive marks)

@@ -18,7 +18,7 @@ use Rattle.base.proofs.Tests.{and-left, and-right}
 use Rattle.families.specs.declared.Family.{Family}
 use Rattle.families.specs.Families.{nodeCount, areRelated}
 use Rattle.lists.specs.Lists.{isLive}
-use Rattle.pairing.specs.Pairs.{largerNode, smallerNode, pairCount}
+use Rattle.pairing.specs.Pairs.{relatedAbove, largerNode, smallerNode, pairCount}
 use Rattle.pairing.proofs.PairLaws.{hasLarger}
 use Rattle.pairing.proofs.CountLaws.{count-sums}
 
@@ -26,10 +26,6 @@ module _ (f : Family) (k : ℕ) (marks : List Bool) (j : ℕ) where
   -- b is the larger node of a pair with a
   abbrev test : ℕ → ℕ → Bool
   test a b = isLive marks b && areRelated f k a b j
-
-  -- the larger nodes of the pairs with a
-  abbrev larger : ℕ → List ℕ
-  larger a = thoseFrom (test a) (suc a) (nodeCount f k - a)
 
   -- a is the smaller node of a pair
   abbrev isSmaller : ℕ → Bool
@@ -41,7 +37,7 @@ module _ (f : Family) (k : ℕ) (marks : List Bool) (j : ℕ) where
       count-sums f k marks j
       ∙ sum-zero _ 1 (nodeCount f k) (λ a l u. go a (isLive marks a) (first-zero isSmaller 1 (nodeCount f k) (omega arith) e a l u))
     where
-      go : (a : ℕ) (b : Bool) → (b && hasLarger f k marks j a) ≡ false → cond b (length (larger a)) 0 ≡ 0
+      go : (a : ℕ) (b : Bool) → (b && hasLarger f k marks j a) ≡ false → cond b (length (relatedAbove f k (isLive marks) j a)) 0 ≡ 0
       go a true h = ap length (those-none (test a) (suc a) (nodeCount f k - a) (omega arith) (omega (arith, ltb-false 0 (largerNode f k marks j a) h)))
       go a false h = refl
 
@@ -53,7 +49,7 @@ module _ (f : Family) (k : ℕ) (marks : List Bool) (j : ℕ) where
       let live = and-left (isLive marks a) (hasLarger f k marks j a) (g .passes) in
       let some = ltb-true 0 (largerNode f k marks j a) (and-right (isLive marks a) (hasLarger f k marks j a) (g .passes)) in
       let one = ap length (those-first (test a) (suc a) (nodeCount f k - a) (largerNode f k marks j a) refl some) in
-      let least = sum-least (λ x. cond (isLive marks x) (length (larger x)) 0) 1 (nodeCount f k) a (g .from) (g .below) in
+      let least = sum-least (λ x. cond (isLive marks x) (length (relatedAbove f k (isLive marks) j x)) 0) 1 (nodeCount f k) a (g .from) (g .below) in
       omega (arith, count-sums f k marks j, rw live at least, one)
 
   -- and the other way round

@@ -21,10 +21,13 @@ largerNode f k marks j a = firstFrom (λ b. isLive marks b && areRelated f k a b
 unfoldable pub smallerNode : Family → ℕ → List Bool → ℕ → ℕ
 smallerNode f k marks j = firstFrom (λ a. isLive marks a && ltb 0 (largerNode f k marks j a)) 1 (nodeCount f k)
 
+-- those of a kind above a that are related to a and j
+abbrev pub relatedAbove : Family → ℕ → (ℕ → Bool) → ℕ → ℕ → List ℕ
+relatedAbove f k kind j a = thoseFrom (λ b. kind b && areRelated f k a b j) (suc a) (nodeCount f k - a)
+
 -- how many related pairs of node j are both live: for each live a, the live nodes above it that are related to a and j
 unfoldable pub pairCount : Family → ℕ → List Bool → ℕ → ℕ
-pairCount f k marks j =
-    length (flatMap (λ a. thoseFrom (λ b. isLive marks b && areRelated f k a b j) (suc a) (nodeCount f k - a)) (liveNodes marks (nodeCount f k)))
+pairCount f k marks j = length (flatMap (relatedAbove f k (isLive marks) j) (liveNodes marks (nodeCount f k)))
 
 -- what the search for a pair of node j gives: the pair, and how many there are; zeros where there is none
 unfoldable pub pairsOf : Family → ℕ → List Bool → ℕ → Pairs
