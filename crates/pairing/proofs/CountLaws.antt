@@ -55,6 +55,16 @@ unfolding sumOf
 sum-append [] t = omega arith
 sum-append (x ∷ s) t = omega (arith, sum-append s t)
 
+-- two tests one after the other, in either order
+swap : (x y : Bool) (m : ℕ) → cond x (cond y m 0) 0 ≡ cond y (cond x m 0) 0
+swap true y m = refl
+swap false true m = refl
+swap false false m = refl
+
+both-tests : (x y : Bool) → _≡_ {A = ℕ} (cond (x && y) 1 0) (cond x (cond y 1 0) 0)
+both-tests true y = refl
+both-tests false y = refl
+
 -- ---- the pairs of node j of which both are of a kind
 
 module _ (f : Family) (k : ℕ) (r : KInRange f k) (j : ℕ) (nj : IsNode f k j) where
@@ -106,13 +116,7 @@ module _ (f : Family) (k : ℕ) (r : KInRange f k) (j : ℕ) (nj : IsNode f k j)
         ∙ go (decLt a (turn a))
       where
         term : (b : ℕ) → IsNode f k b → _≡_ {A = ℕ} (cond (kind b && areRelated f k a b j) 1 0) (cond (eqb b (turn a)) (cond (kind b) 1 0) 0)
-        term b nb = rw (related-third a b nb) (flip (kind b) (eqb b (turn a)))
-          where
-            flip : (x y : Bool) → _≡_ {A = ℕ} (cond (x && y) 1 0) (cond y (cond x 1 0) 0)
-            flip true true = refl
-            flip true false = refl
-            flip false true = refl
-            flip false false = refl
+        term b nb = rw (related-third a b nb) (both-tests (kind b) (eqb b (turn a)) ∙ swap (kind b) (eqb b (turn a)) 1)
 
         go : Dec (a < turn a) → sumFrom (λ b. cond (eqb b (turn a)) (cond (kind b) 1 0) 0) (suc a) (n - a) ≡ cond (ltb a (turn a)) (cond (kind (turn a)) 1 0) 0
         go (yes l) = rw (lt-ltb a (turn a) l) (sum-only (λ b. cond (kind b) 1 0) (suc a) (n - a) (turn a) l (omega (arith, within a)))
@@ -135,13 +139,7 @@ module _ (f : Family) (k : ℕ) (r : KInRange f k) (j : ℕ) (nj : IsNode f k j)
             none : (x : Bool) → _≡_ {A = ℕ} (cond x 0 0) 0
             none true = refl
             none false = refl
-        go a x (inr h) = rw (lt-ltb 0 (turn a) h) (order x (ltb a (turn a)))
-          where
-            order : (x y : Bool) → _≡_ {A = ℕ} (cond x (cond y (cond (kind (turn a)) 1 0) 0) 0) (cond y (cond x (cond (kind (turn a)) 1 0) 0) 0)
-            order true true = refl
-            order true false = refl
-            order false true = refl
-            order false false = refl
+        go a x (inr h) = rw (lt-ltb 0 (turn a) h) (swap x (ltb a (turn a)) (cond (kind (turn a)) 1 0))
 
     -- a pair is seen from both its nodes
     two : (a : ℕ) → 1 ≤ a → a ≤ n → cond (ltb 0 (turn a)) (up a) 0 + cond (ltb 0 (turn a)) (up (turn a)) 0 ≡ cond (ltb 0 (turn a)) (both a) 0
@@ -152,15 +150,9 @@ module _ (f : Family) (k : ℕ) (r : KInRange f k) (j : ℕ) (nj : IsNode f k j)
         go (inl e) = rw (le-ltb 0 (turn a) (omega arith))
         go (inr h) = rw (lt-ltb 0 (turn a) h, back a l u h) (side (decLt a (turn a)))
           where
-            order : (x y : Bool) → _≡_ {A = ℕ} (cond x (cond y 1 0) 0) (cond y (cond x 1 0) 0)
-            order true true = refl
-            order true false = refl
-            order false true = refl
-            order false false = refl
-
             side : Dec (a < turn a) → cond (ltb a (turn a)) (both a) 0 + cond (ltb (turn a) a) (cond (kind (turn a)) (cond (kind a) 1 0) 0) 0 ≡ both a
             side (yes g) = rw (lt-ltb a (turn a) g, le-ltb (turn a) a (omega arith)) (omega arith)
-            side (no g) = rw (le-ltb a (turn a) (omega arith), lt-ltb (turn a) a (omega (arith, not-same a h))) (omega (arith, order (kind (turn a)) (kind a)))
+            side (no g) = rw (le-ltb a (turn a) (omega arith), lt-ltb (turn a) a (omega (arith, not-same a h))) (omega (arith, swap (kind (turn a)) (kind a) 1))
 
     pub pairs-twice : 2 * pairsBy ≡ sumFrom (λ a. cond (ltb 0 (turn a)) (both a) 0) 1 n
     pairs-twice =
@@ -218,11 +210,7 @@ module _ (f : Family) (k : ℕ) (r : KInRange f k) (j : ℕ) (nj : IsNode f k j)
         later = thoseFrom kind (suc i) m
 
         term : (b : ℕ) → suc i ≤ b → b < suc i + m → _≡_ {A = ℕ} (cond (kind b) (cond (eqb (thirdNode f k i b) j) 1 0) 0) (cond (kind b && areRelated f k i b j) 1 0)
-        term b u v = rw (third-related i b (record { first = l; last = omega arith }) (record { first = omega arith; last = omega arith })) (join (kind b) (eqb (thirdNode f k i b) j))
-          where
-            join : (x y : Bool) → _≡_ {A = ℕ} (cond x (cond y 1 0) 0) (cond (x && y) 1 0)
-            join true y = refl
-            join false y = refl
+        term b u v = rw (third-related i b (record { first = l; last = omega arith }) (record { first = omega arith; last = omega arith })) (sym (both-tests (kind b) (eqb (thirdNode f k i b) j)))
 
         here : sumOf (map (λ x. cond (eqb x j) 1 0) (map (thirdNode f k i) (thoseFrom kind (suc i) m))) ≡ length (thoseFrom (λ b. kind b && areRelated f k i b j) (suc i) (end - suc i))
         here =
@@ -263,13 +251,7 @@ module _ (f : Family) (k : ℕ) (r : KInRange f k) (j : ℕ) (nj : IsNode f k j)
     missingThirds = sumFrom (λ a. cond (ltb 0 (turn a)) (cond (missing a) 1 0) 0) 1 n
 
     missing-seen : withThird f k (thoseFrom missing 1 n) j ≡ missingThirds
-    missing-seen = sum-those (λ a. cond (ltb 0 (turn a)) 1 0) missing 1 n ∙ sum-same _ _ 1 n (λ a l u. order (missing a) (ltb 0 (turn a)))
-      where
-        order : (x y : Bool) → _≡_ {A = ℕ} (cond x (cond y 1 0) 0) (cond y (cond x 1 0) 0)
-        order true true = refl
-        order true false = refl
-        order false true = refl
-        order false false = refl
+    missing-seen = sum-those (λ a. cond (ltb 0 (turn a)) 1 0) missing 1 n ∙ sum-same _ _ 1 n (λ a l u. swap (missing a) (ltb 0 (turn a)) 1)
 
     -- each third node is missing once, either way, and where both are missing once more
     pub live-by-missing : pairsBy live + withThird f k (thoseFrom missing 1 n) j ≡ mostPairs f k + pairsBy missing
