@@ -6,22 +6,20 @@ use mathlib.Core.Bool.{Bool, true, false, cond, not, _&&_}
 use mathlib.Core.List.{List, [], _∷_, _++_, map, map-map, map-append, flatMap}
 use mathlib.Core.Logic.{_⊎_, inl, inr}
 use Prim.Native.Nat.{ℕ, zero, suc, _+_, _-_, _*_, _≤_, _<_}
-use native.Mathlib.Decide.{ℕ-discrete, decLt}
+use native.Mathlib.Decide.{decLt}
 use native.Mathlib.Nat.{eq-zero-or-pos, zero-add}
 use native.Mathlib.Omega.{arith}
-use borrow.Author.Tests.{eq-eqb, ne-eqb, eqb-true, lt-ltb, le-ltb, ltb-true}
+use borrow.Author.Tests.{eq-eqb, eqb-true, lt-ltb, le-ltb}
 use lib.Bits.{bitXor}
 use lib.Dec.{eqb, ltb}
 use lib.ListN.{length, length-append, length-replicate, getD-replicate}
 use Rattle.base.specs.Ranges.{thoseFrom}
-use Rattle.base.proofs.First.{first-none}
 use Rattle.base.proofs.Sums.{sumFrom, count-sum, sum-same, sum-most, sum-add, sum-none, sum-only, sum-turn}
-use Rattle.base.proofs.Tests.{and-left, and-right, and-both, same-answer, is-false}
-use Rattle.base.proofs.Xor.{xor-third}
+use Rattle.base.proofs.Tests.{same-answer}
 use Rattle.families.specs.declared.Family.{Family}
 use Rattle.families.specs.declared.Family.the-variants.{Simplex}
 use Rattle.families.specs.Families.{KInRange, IsNode, nodeCount, columnOf, areRelated}
-use Rattle.families.proofs.Laws.{few, node-is, node-of, related-differ, related-turn, related-swap}
+use Rattle.families.proofs.Laws.{few, node-of, related-differ, related-turn, related-swap}
 use Rattle.lists.specs.Lists.{missingNodes, isLive, liveNodes}
 use Rattle.counts.specs.Counts.{noCounts, countOf, countAll, sumOf}
 use Rattle.lists.proofs.Laws.{those-few}
@@ -30,7 +28,7 @@ use Rattle.pairing.specs.Pairs.{relatedAbove, pairCount, mostPairs}
 use Rattle.pairing.specs.Inner.{thirdNode, thirds, withThird}
 use Rattle.pairing.proofs.MostLaws.{thirds-count, all-one}
 use Rattle.pairing.proofs.Thirds.{counted}
-use Rattle.pairing.proofs.PairLaws.{third-few, related-partner, partner-related}
+use Rattle.pairing.proofs.PairLaws.{related-partner, partner-related}
 
 -- ---- sums over a list
 

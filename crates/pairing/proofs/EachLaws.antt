@@ -1,20 +1,19 @@
 -- Counts in which each node of a list has its own: how far they are made, and what they then are.
 -- Assumes nothing.
-use mathlib.Core.Path.{_≡_, refl, sym, ap, _∙_}
-use mathlib.Core.Bool.{Bool, true, false}
+use mathlib.Core.Path.{_≡_, refl, _∙_}
+use mathlib.Core.Bool.{Bool}
 use mathlib.Core.List.{List, List·Memᴰ, List·Memᴰ·head, List·Memᴰ·tail, [], _∷_}
 use mathlib.Core.Logic.{_⊎_, inl, inr}
-use Prim.Native.Nat.{ℕ, zero, suc, _+_, _≤_, _<_}
-use native.Mathlib.Decide.{ℕ-discrete, decLt}
+use Prim.Native.Nat.{ℕ, _+_, _≤_, _<_}
+use native.Mathlib.Decide.{ℕ-discrete}
 use native.Mathlib.Numerals.{add-one}
 use native.Mathlib.Omega.{arith}
 use lib.ListN.{length, getD, set, drop, drop-of-length-le, length-set, length-replicate, getD-replicate}
 use lib.Seq.{drop-cons, getD-set-same, getD-set-other}
 use Rattle.families.specs.declared.Family.{Family}
-use Rattle.families.specs.Families.{IsNode}
 use Rattle.counts.specs.Counts.{noCounts, countOf}
 use Rattle.pairing.specs.Pairs.{pairCount}
-use Rattle.pairing.specs.Inner.{countEach, OwnCounts}
+use Rattle.pairing.specs.Inner.{countEach}
 
 -- the counts of the nodes from place i of the list on are left to be made
 pub record Making (f : Family) (k : ℕ) (marks : List Bool) (nodes counts : List ℕ) (i : ℕ) : Type 0 where

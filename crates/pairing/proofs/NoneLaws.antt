@@ -2,18 +2,16 @@
 -- Assumes nothing.
 use mathlib.Core.Path.{_≡_, refl, ap, _∙_}
 use mathlib.Core.Bool.{Bool, true, false, cond, _&&_}
-use mathlib.Core.List.{List, _∷_}
+use mathlib.Core.List.{List}
 use mathlib.Core.Logic.{_⊎_, inl, inr}
-use Prim.Native.Nat.{ℕ, suc, _+_, _-_, _≤_, _<_}
+use Prim.Native.Nat.{ℕ, suc, _-_, _≤_, _<_}
 use native.Mathlib.Nat.{eq-zero-or-pos}
 use native.Mathlib.Omega.{arith}
 use borrow.Author.Tests.{ltb-true, ltb-false}
-use lib.Dec.{ltb}
 use lib.ListN.{length}
-use Rattle.base.specs.Ranges.{firstFrom, thoseFrom}
 use Rattle.base.proofs.First.{first-zero, found}
 use Rattle.base.proofs.RangeLaws.{those-none, those-first}
-use Rattle.base.proofs.Sums.{sumFrom, sum-zero, sum-least}
+use Rattle.base.proofs.Sums.{sum-zero, sum-least}
 use Rattle.base.proofs.Tests.{and-left, and-right}
 use Rattle.families.specs.declared.Family.{Family}
 use Rattle.families.specs.Families.{nodeCount, areRelated}

@@ -1,24 +1,22 @@
 -- The search by itself: where one node alone is counted, the walk from the number before it finds that node, or nothing.
 -- Assumes nothing.
-use mathlib.Core.Path.{_≡_, refl, sym, ap, _∙_}
-use mathlib.Core.Bool.{Bool, true, false, cond}
+use mathlib.Core.Path.{_≡_, refl, ap, _∙_}
+use mathlib.Core.Bool.{Bool}
 use mathlib.Core.List.{List, List·Memᴰ·head, List·Memᴰ·tail, List·Memᴰ·not-nil, List·Memᴰ, [], _∷_}
 use mathlib.Core.Logic.{_⊎_, inl, inr}
-use Prim.Native.Nat.{ℕ, suc, _+_, _-_, _≤_, _<_}
+use Prim.Native.Nat.{ℕ, suc, _-_, _≤_, _<_}
 use native.Mathlib.Nat.{eq-zero-or-pos}
 use native.Mathlib.Decide.{ℕ-discrete}
 use native.Mathlib.Omega.{arith}
-use borrow.Author.Tests.{lt-ltb, le-ltb, ne-eqb, eq-eqb}
+use borrow.Author.Tests.{lt-ltb, le-ltb, ne-eqb}
 use lib.Dec.{ltb}
-use lib.ListN.{length, length-replicate, getD-replicate}
-use Rattle.base.specs.Ranges.{firstFrom}
+use lib.ListN.{length-replicate, getD-replicate}
 use Rattle.base.proofs.First.{first-of, first-none}
 use Rattle.families.specs.declared.Family.{Family}
 use Rattle.families.specs.Families.{KInRange, IsNode, nodeCount}
 use Rattle.families.proofs.Laws.{few}
 use Rattle.counts.specs.Counts.{noCounts, countOf}
-use Rattle.pairing.specs.declared.Found.{Found}
-use Rattle.pairing.specs.Pairs.{smallerNode, pairCount, pairsOf}
+use Rattle.pairing.specs.Pairs.{pairCount, pairsOf}
 use Rattle.pairing.specs.Inner.{countEach, nextCounted, foundAt}
 use Rattle.pairing.proofs.EachLaws.{each-listed, each-other}
 use Rattle.pairing.proofs.NoneLaws.{none-count}

@@ -1,7 +1,7 @@
 -- How far the search has come: the walk over the nodes that are counted, and at one of them the search for its pair.
 -- Assumes nothing.
-use mathlib.Core.Path.{_≡_, refl, sym, ap, _∙_}
-use mathlib.Core.Bool.{Bool, true, false, cond}
+use mathlib.Core.Path.{_≡_, refl, ap, _∙_}
+use mathlib.Core.Bool.{Bool, cond}
 use mathlib.Core.List.{List}
 use mathlib.Core.Logic.{_⊎_, inl, inr}
 use Prim.Native.Nat.{ℕ, _+_, _≤_, _<_}
@@ -10,8 +10,8 @@ use borrow.Author.Tests.{lt-ltb, le-ltb, ne-eqb}
 use lib.Dec.{ltb}
 use lib.ListN.{length, getD, drop}
 use Rattle.families.specs.declared.Family.{Family}
-use Rattle.families.specs.Families.{KInRange, IsNode, nodeCount}
-use Rattle.lists.specs.Lists.{isLive, liveNodes}
+use Rattle.families.specs.Families.{IsNode, nodeCount}
+use Rattle.lists.specs.Lists.{liveNodes}
 use Rattle.lists.proofs.Laws.{outside-none, live-nodes-inside}
 use Rattle.counts.specs.Counts.{countOf}
 use Rattle.pairing.specs.Pairs.{largerNode, smallerNode, pairCount, pairsOf}

@@ -24,13 +24,13 @@ use Rattle.lists.specs.Lists.{missingNodes, isLive, setLive, liveNodes}
 use Rattle.lists.proofs.MarkLaws.{live-append}
 use Rattle.counts.specs.Counts.{noCounts, countOf}
 use Rattle.pairing.specs.declared.Found.{Found}
-use Rattle.pairing.specs.Pairs.{smallerNode, largerNode, pairCount, pairsOf}
+use Rattle.pairing.specs.Pairs.{smallerNode, pairCount, pairsOf}
 use Rattle.pairing.specs.Inner.{countEach, nextCounted, foundAt}
 use Rattle.pairing.proofs.PairLaws.{pair-of, pairs-are}
 use Rattle.pairing.proofs.EachLaws.{each-listed, each-other}
-use Rattle.pairing.proofs.NoneLaws.{count-some, none-count, count-none}
+use Rattle.pairing.proofs.NoneLaws.{count-some, count-none}
 use Rattle.planning.specs.Plan.{Step, isRepaired, stepOf, roundSteps, repairedNodes, marksAfter, stepBytes}
-use Rattle.planning.proofs.MakeLaws.{live-kept, pair-repairs, repaired-missing, repaired-smaller}
+use Rattle.planning.proofs.MakeLaws.{live-kept, pair-repairs, repaired-smaller}
 
 -- ---- lists of steps
 

@@ -1,17 +1,16 @@
 -- `pairing::count::count_at` meets its contract: the pairs within the live nodes are the node's, and those within the missing ones tell it.
 -- Assumes nothing.
-use mathlib.Core.Path.{_≡_, sym, ap, _∙_}
-use mathlib.Core.Bool.{Bool, cond, not}
-use mathlib.Core.List.{List}
-use Prim.Native.Nat.{ℕ, _+_, _≤_}
+use mathlib.Core.Path.{_≡_, _∙_}
+use mathlib.Core.Bool.{Bool, not}
+use Prim.Native.Nat.{ℕ, _+_}
 use native.Mathlib.Omega.{arith}
 use denote.Ref.{now}
 use borrow.Author.Needs.{needs}
 use Rattle.families.specs.Families.{nodeCount}
 use Rattle.families.proofs.Laws.{few}
-use Rattle.lists.specs.Lists.{missingNodes, isLive, liveNodes}
+use Rattle.lists.specs.Lists.{missingNodes, isLive}
 use Rattle.counts.specs.Counts.{noCounts, countOf, countAll}
-use Rattle.pairing.specs.Pairs.{pairCount, mostPairs}
+use Rattle.pairing.specs.Pairs.{pairCount}
 use Rattle.pairing.specs.Inner.{thirds}
 use Rattle.pairing.proofs.CountLaws.{by-live, by-missing, tabled-few, most-few}
 use Rattle.pairing.proofs.count.count_at.Statement.{statement}

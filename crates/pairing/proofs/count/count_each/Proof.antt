@@ -1,6 +1,6 @@
 -- `pairing::count::count_each` meets its contract: before each turn the nodes before place i have their counts.
 -- Assumes nothing.
-use mathlib.Core.Path.{_≡_, sym, _∙_}
+use mathlib.Core.Path.{_∙_}
 use mathlib.Core.Bool.{Bool}
 use Prim.Native.Nat.{ℕ, _-_, _≤_}
 use native.Mathlib.Nat.{mod-eq-of-lt}
@@ -11,7 +11,6 @@ use lib.ListN.{length}
 use Rattle.base.specs.Ranges.{thoseFrom}
 use Rattle.families.specs.Families.{IsNode, nodeCount}
 use Rattle.families.proofs.Laws.{few}
-use Rattle.lists.specs.Lists.{isLive}
 use Rattle.lists.proofs.Laws.{outside-none, nodes-inside, those-few}
 use Rattle.pairing.proofs.CountLaws.{count-most, most-few}
 use Rattle.pairing.proofs.EachLaws.{Making, making-none, making-more, making-done}

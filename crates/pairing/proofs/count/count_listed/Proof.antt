@@ -1,6 +1,5 @@
 -- `pairing::count::count_listed` meets its contract: the missing nodes are nodes.
 -- Assumes nothing.
-use borrow.Author.Needs.{needs}
 use Rattle.lists.proofs.Laws.{nodes-inside}
 use Rattle.pairing.proofs.count.count_listed.Statement.{statement}
 use Rattle.pairing.proofs.count.count_listed.Tie as tie

@@ -1,17 +1,14 @@
 -- `pairing::count::count_missing` meets its contract: the missing nodes are listed.
 -- Assumes nothing.
-use mathlib.Core.Path.{_≡_, refl, ap, _∙_}
-use mathlib.Core.List.{[], _∷_}
-use Prim.Native.Nat.{_-_, _%_, _≤_}
-use native.Mathlib.Nat.{mod-eq-of-lt}
+use mathlib.Core.Path.{_≡_, ap, _∙_}
+use Prim.Native.Nat.{_-_, _≤_}
 use native.Mathlib.Omega.{arith}
 use denote.Ref.{now}
-use borrow.Author.Needs.{needs}
 use lib.ListN.{length, take, length-take}
 use Rattle.families.specs.Families.{nodeCount}
 use Rattle.families.proofs.Laws.{few}
-use Rattle.lists.specs.Lists.{someOutside, missingNodes}
-use Rattle.lists.proofs.Laws.{live-nodes-few, outside-cons}
+use Rattle.lists.specs.Lists.{missingNodes}
+use Rattle.lists.proofs.Laws.{live-nodes-few}
 use Rattle.pairing.proofs.ListedLaws.{listed, fits-in, missing-count}
 use Rattle.pairing.proofs.count.count_missing.Statement.{statement}
 use Rattle.pairing.proofs.count.count_missing.Tie as tie

@@ -7,14 +7,12 @@ use Prim.Native.Nat.{suc, _+_, _-_, _*_, _≤_}
 use native.Mathlib.Nat.{add-sub-cancel-left}
 use native.Mathlib.Omega.{arith}
 use denote.Ref.{now}
-use borrow.Author.Needs.{needs}
 use lib.ListN.{length, take, length-take, take-append-drop}
 use Rattle.base.specs.Ranges.{firstFrom}
 use Rattle.blocks.proofs.PartLaws.{length-mid}
 use Rattle.families.specs.Families.{nodeCount}
 use Rattle.families.proofs.Laws.{few}
-use Rattle.lists.specs.Lists.{missingNodes, liveNodes, setLive}
-use Rattle.lists.proofs.Laws.{live-nodes-few}
+use Rattle.lists.specs.Lists.{liveNodes, setLive}
 use Rattle.planning.specs.Plan.{isRepaired, stepBytes}
 use Rattle.pairing.specs.Inner.{SearchBegins, foundAt}
 use Rattle.pairing.proofs.ListedLaws.{listed, fits-in}
