@@ -67,7 +67,7 @@ module _ (k : ℕ) (r : KInRange WeightTwo k) (j : ℕ) (n : IsNode WeightTwo k 
     one-shared x y w e h s l = counted-other WeightTwo k r j n 2 a m (differs y h l) (meets x y w e s)
 
     -- it counts for as many as it has of j's two numbers
-    shared : counted WeightTwo k j 2 a ≡ ends k (p .smaller) (col a) + ends k (p .larger) (col a)
+    pub shared : counted WeightTwo k j 2 a ≡ ends k (p .smaller) (col a) + ends k (p .larger) (col a)
     shared = go (has q (p .smaller)) (has q (p .larger))
       where
         go : Dec (Has q (p .smaller)) → Dec (Has q (p .larger)) → counted WeightTwo k j 2 a ≡ ends k (p .smaller) (col a) + ends k (p .larger) (col a)

@@ -6,6 +6,7 @@ pub mod PairLaws
 pub mod CountLaws
 pub mod NoneLaws
 pub mod TableLaws
+pub mod DegreeLaws
 pub mod EachLaws
 pub mod ListedLaws
 pub mod OneLaws

@@ -1,18 +1,20 @@
--- For inner functions: third nodes, what a search goes by, the counts that it is handed, and what it finds.
+-- For inner functions: third nodes, the numbers of weight-two's nodes, what a search goes by, the counts that it is handed, and what it finds.
 use mathlib.Core.Path.{_≡_}
 use mathlib.Core.Bool.{Bool, cond}
 use mathlib.Core.List.{List, [], _∷_, _++_, map}
 use mathlib.Core.Logic.{_⊎_}
-use Prim.Native.Nat.{ℕ, suc, _-_}
+use Prim.Native.Nat.{ℕ, suc, _+_, _-_, _^_}
 use lib.Bits.{bitXor}
+use lib.Count.{trailingZeros}
 use lib.Dec.{eqb, ltb}
-use lib.ListN.{set}
+use lib.ListN.{set, replicate}
 use Rattle.base.specs.Ranges.{firstFrom}
 use Rattle.families.specs.declared.Family.{Family}
+use Rattle.families.specs.declared.Family.the-variants.{Simplex, WeightTwo, Tetrahedron}
 use Rattle.families.specs.Families.{KInRange, IsNode, nodeCount, columnOf, nodeOf}
 use Rattle.families.specs.Inner.{columnTable}
 use Rattle.lists.specs.Lists.{isLive, liveNodes}
-use Rattle.counts.specs.Counts.{countOf, sumOf}
+use Rattle.counts.specs.Counts.{countOf, countAll, sumOf}
 use Rattle.pairing.specs.Pairs.{pairCount, pairsOf}
 use Rattle.pairing.specs.declared.Found.{Found}
 
@@ -32,6 +34,29 @@ thirds f k (a ∷ list) = map (thirdNode f k a) list ++ thirds f k list
 -- how many of a list have a third node with j
 abbrev pub withThird : Family → ℕ → List ℕ → ℕ → ℕ
 withThird f k list j = sumOf (map (λ a. cond (ltb 0 (thirdNode f k j a)) 1 0) list)
+
+-- weight-two: the number of a column's lowest bit
+abbrev pub firstEnd : ℕ → ℕ
+firstEnd c = trailingZeros 64 c + 1
+
+-- and that of what is left without it; 0 where nothing is left
+unfoldable pub secondEnd : ℕ → ℕ
+secondEnd c = let rest = c - 2 ^ trailingZeros 64 c in cond (eqb rest 0) 0 (trailingZeros 64 rest + 1)
+
+-- the two numbers of each node of a list
+unfoldable pub endsOf : ℕ → List ℕ → List ℕ
+endsOf k [] = []
+endsOf k (a ∷ list) = firstEnd (columnOf WeightTwo k a) ∷ secondEnd (columnOf WeightTwo k a) ∷ endsOf k list
+
+-- a 0 for each number, of which there are at most 23
+abbrev pub noDegrees : List ℕ
+noDegrees = replicate 32 0
+
+-- how many nodes of a list have each number; those of another family have none
+unfoldable pub degreesOf : Family → ℕ → List ℕ → List ℕ
+degreesOf Simplex k list = noDegrees
+degreesOf WeightTwo k list = countAll noDegrees (endsOf k list)
+degreesOf Tetrahedron k list = noDegrees
 
 -- what a search goes by: the columns by node number, and the live nodes
 pub record SearchBegins (f : Family) (k : ℕ) (columns live : List ℕ) (marks : List Bool) : Type 0 where

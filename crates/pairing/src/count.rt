@@ -1,6 +1,8 @@
 // How many related pairs of a node are both live. Of the live and the missing nodes, the fewer are gone through two by two, and each two
 // count for the node that is related to both. Where these are the missing ones, the node has as many pairs as where every node is live,
 // less one for each missing node of a pair, and one more for each pair that was so taken off twice.
+use crate::ends::by_degrees;
+use crate::ends::degrees;
 use base::wide;
 use families::Family;
 ghost use mathlib.Core.Path.{_≡_};
@@ -13,7 +15,7 @@ ghost use Rattle.families.specs.Inner.{columnTable};
 ghost use Rattle.lists.specs.Lists.{missingNodes, someOutside, liveNodes};
 ghost use Rattle.counts.specs.Counts.{noCounts, countAll, sumOf};
 ghost use Rattle.pairing.specs.Pairs.{pairCount, mostPairs};
-ghost use Rattle.pairing.specs.Inner.{thirdNode, thirds, withThird, SearchBegins, countEach};
+ghost use Rattle.pairing.specs.Inner.{thirdNode, thirds, withThird, degreesOf, SearchBegins, countEach};
 
 // One more for each node related to the node at place i of a list and one after it.
 fn count_thirds(
@@ -54,7 +56,7 @@ fn pairs_within(family: Family, k: usize, columns: &[usize; 256], list: &[u8]) -
     table
 }
 
-// How many of a list have a third node with j.
+// How many of a list have a third node with j, each asked by itself: for the tetrahedron alone, which has 14 nodes.
 fn with_third(family: Family, k: usize, columns: &[usize; 256], list: &[u8], j: usize) -> usize
     requires { ⌜ KInRange family k × (now columns ≡ columnTable family k) × IsNode family k j ⌝ }
     requires { ⌜ someOutside (nodeCount family k) (now list) ≡ false ⌝ }
@@ -72,22 +74,24 @@ fn with_third(family: Family, k: usize, columns: &[usize; 256], list: &[u8], j: 
     count
 }
 
-// How many missing nodes have a third node with j: in simplex all but j itself.
+// How many missing nodes have a third node with j: in simplex all but j itself, in weight-two by how many have each of its two numbers.
 fn missing_with_third(
     family: Family,
     k: usize,
     columns: &[usize; 256],
     missing: &[u8],
     marks: &[bool; 256],
+    degrees: &[u16; 32],
     j: usize,
 ) -> usize
     requires { ⌜ KInRange family k × (now columns ≡ columnTable family k) × IsNode family k j ⌝ }
     requires { ⌜ now missing ≡ missingNodes (now marks) (nodeCount family k) ⌝ }
+    requires { ⌜ now degrees ≡ degreesOf family k (now missing) ⌝ }
     ensures { λ r. ⌜ r ≡ withThird family k (now (missing .entry)) j ⌝ }
 {
     match family {
         Family::Simplex => missing.len() - !marks[j] as usize,
-        Family::WeightTwo => with_third(family, k, columns, missing, j),
+        Family::WeightTwo => by_degrees(k, columns, marks, degrees, j),
         Family::Tetrahedron => with_third(family, k, columns, missing, j),
     }
 }
@@ -113,18 +117,21 @@ fn count_at(
     marks: &[bool; 256],
     few: bool,
     table: &[u16; 256],
+    degrees: &[u16; 32],
     j: usize,
 ) -> usize
     requires { ⌜ KInRange family k × (now columns ≡ columnTable family k) × IsNode family k j ⌝ }
     requires { ⌜ now missing ≡ missingNodes (now marks) (nodeCount family k) ⌝ }
     requires { ⌜ now table ≡ countAll noCounts (thirds family k (cond few (liveNodes (now marks) (nodeCount family k)) (now missing))) ⌝ }
+    requires { ⌜ now degrees ≡ degreesOf family k (cond few [] (now missing)) ⌝ }
     ensures { λ r. ⌜ r ≡ pairCount family k (now (marks .entry)) j ⌝ }
 {
     let within = counts::wide(table[j]);
     if few {
         return within;
     }
-    most_pairs(family, k) + within - missing_with_third(family, k, columns, missing, marks, j)
+    most_pairs(family, k) + within
+        - missing_with_third(family, k, columns, missing, marks, degrees, j)
 }
 
 // The table that is the quicker to make.
@@ -164,11 +171,13 @@ fn count_each(
 {
     let few = live.len() <= missing.len();
     let table = shorter_table(family, k, columns, live, missing, few);
+    let degrees = degrees(family, k, columns, missing, few);
     let mut counts = [0u16; 256];
     let mut i: usize = 0;
     while i < nodes.len() {
         let j = wide(nodes[i]);
-        counts[j] = (count_at(family, k, columns, missing, marks, few, &table, j) % 65536) as u16;
+        counts[j] = (count_at(family, k, columns, missing, marks, few, &table, &degrees, j)
+            % 65536) as u16;
         i += 1;
     }
     counts

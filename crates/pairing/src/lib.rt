@@ -1,6 +1,7 @@
 // The search for a pair on plain marks: two live nodes related to a node, of which the smaller is least, and how many such pairs
 // there are.
 pub mod count;
+mod ends;
 pub mod search;
 
 // The pair of a node whose smaller node is least, and how many pairs the node has; zeros where it has none.

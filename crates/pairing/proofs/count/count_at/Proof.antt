@@ -21,7 +21,7 @@ returns c =
     let e : tie.Start = search in
     let q : tie.After-wide = search in
     let p = e .pre in
-    q .wide .ensures ∙ rw (p .1 .1, c .if1 .taken) (by-live _ _ (p .0 .0) (now (e .args .marks)) _ (p .0 .2))
+    q .wide .ensures ∙ rw (p .1 .1 .0, c .if1 .taken) (by-live _ _ (p .0 .0) (now (e .args .marks)) _ (p .0 .2))
 
 -- what the table has of j
 table-is : (c : tie.Else1) → let e = c .before .before .before .before in
@@ -30,7 +30,7 @@ table-is c =
     let e : tie.Start = search in
     let q : tie.After-wide = search in
     let p = e .pre in
-    q .wide .ensures ∙ rw (p .1 .1, c .if1 .left, p .1 .0)
+    q .wide .ensures ∙ rw (p .1 .1 .0, c .if1 .left, p .1 .0)
 
 add-result : tie.Need-add-result
 add-result c =
@@ -39,6 +39,13 @@ add-result c =
     let p = e .pre in
     let kind : ℕ → Bool = λ i. not (isLive (now (e .args .marks)) i) in
     omega (arith, m .most-pairs .ensures, table-is (search), tabled-few _ _ (p .0 .0) (now (e .args .marks)) _ (p .0 .2) kind, most-few _ _ (p .0 .0) (now (e .args .marks)) _ (p .0 .2))
+
+missing-with-third-requires : tie.Need-missing-with-third-requires
+missing-with-third-requires c κs =
+    let e : tie.Start = search in
+    let o : tie.Else1 = search in
+    let p = e .pre in
+    (p .0, (p .1 .0, p .1 .1 .1 ∙ rw (o .if1 .left)))
 
 -- the count and what was taken off
 whole : (c : tie.After-missing-with-third) → let e = c .before .before .before .before .before .before in
@@ -59,6 +66,6 @@ count-at-spec =
     returns
     (λ c κs. search needs)
     add-result
-    (λ c κs. search needs)
+    missing-with-third-requires
     (λ c. omega (arith, whole (search)))
     (λ c. omega (arith, whole (search))))

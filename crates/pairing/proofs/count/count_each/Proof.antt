@@ -18,10 +18,10 @@ use Rattle.pairing.proofs.count.count_each.Statement.{statement}
 use Rattle.pairing.proofs.count.count_each.Tie as tie
 
 abbrev Inv-loop : tie.InvT-loop
-Inv-loop family k columns live missing marks nodes few table counts₀ i₀ counts i = Making family k marks nodes counts i
+Inv-loop family k columns live missing marks nodes few table degrees counts₀ i₀ counts i = Making family k marks nodes counts i
 
 abbrev μ-loop : tie.MeasureT-loop
-μ-loop family k columns live missing marks nodes few table counts₀ i₀ counts i = length nodes - i
+μ-loop family k columns live missing marks nodes few table degrees counts₀ i₀ counts i = length nodes - i
 
 -- a place of the code, which `search` finds by its type
 abbrev Place : (tie.InvT-loop → tie.MeasureT-loop → Type 0) → Type 0
@@ -37,8 +37,14 @@ shorter-table-requires c κs =
     let p = e .pre in
     ((p .0 .range, p .0 .table), (rw (p .0 .nodes) (nodes-inside _ _, short e _), rw (p .1 .0) (nodes-inside _ _, short e _)))
 
+degrees-requires : tie.Need-degrees-requires Inv-loop μ-loop
+degrees-requires c κs =
+    let e : Place tie.Start = search in
+    let p = e .pre in
+    ((p .0 .range, p .0 .table), rw (p .1 .0) (nodes-inside _ _, short e _))
+
 -- j is a node
-listed-node : (c : Place tie.After-wide) → let g = c .before .before .before .before .before .before .before .before .args in IsNode (g .family) (g .k) (c .wide .result)
+listed-node : (c : Place tie.After-wide) → let g = c .before .before .before .before .before .before .before .before .before .args in IsNode (g .family) (g .k) (c .wide .result)
 listed-node c =
     let e : Place tie.Start = search in
     let t : Place tie.At-loop = search in
@@ -49,8 +55,9 @@ count-at-requires : tie.Need-count-at-requires Inv-loop μ-loop
 count-at-requires c κs =
     let e : Place tie.Start = search in
     let s : Place tie.After-shorter-table = search in
+    let d : Place tie.After-degrees = search in
     let p = e .pre in
-    ((p .0 .range, p .0 .table, listed-node (search)), (p .1 .0, s .shorter-table .ensures ∙ rw (p .0 .nodes)))
+    ((p .0 .range, p .0 .table, listed-node (search)), (p .1 .0, (s .shorter-table .ensures ∙ rw (p .0 .nodes), d .degrees .ensures)))
 
 loop-again : tie.Need-loop-again Inv-loop μ-loop
 loop-again c =
@@ -70,6 +77,7 @@ count-each-spec =
     Inv-loop
     μ-loop
     shorter-table-requires
+    degrees-requires
     (λ c. making-none _ _ _ _)
     (λ c. search needs)
     (λ c κs. search needs)
