@@ -25,7 +25,7 @@ use Rattle.counts.specs.Counts.{noCounts, countOf, countAll, sumOf}
 use Rattle.lists.proofs.Laws.{those-few}
 use Rattle.counts.proofs.Laws.{count-times}
 use Rattle.pairing.specs.Pairs.{relatedAbove, pairCount, mostPairs}
-use Rattle.pairing.specs.Inner.{thirdNode, thirds, withThird}
+use Rattle.pairing.specs.Inner.{thirdNode, thirds, withThird, livePartner, liveEnds}
 use Rattle.pairing.proofs.MostLaws.{thirds-count, all-one}
 use Rattle.pairing.proofs.Thirds.{counted}
 use Rattle.pairing.proofs.PairLaws.{related-partner, partner-related}
@@ -301,6 +301,28 @@ count-sums f k marks j =
 pub count-is : (f : Family) (k : ℕ) (r : KInRange f k) (marks : List Bool) (j : ℕ) (nj : IsNode f k j) → pairCount f k marks j ≡ pairsBy f k r j nj (isLive marks)
 unfolding pairCount pairsBy
 count-is f k r marks j nj = refl
+
+-- the live nodes that have a live third node with j are twice as many
+pub ends-twice : (f : Family) (k : ℕ) (r : KInRange f k) (marks : List Bool) (j : ℕ) → IsNode f k j → liveEnds f k marks (liveNodes marks (nodeCount f k)) j ≡ 2 * pairCount f k marks j
+unfolding livePartner
+ends-twice f k r marks j nj =
+    sum-those (λ a. cond (ltb 0 (livePartner f k marks j a)) 1 0) (isLive marks) 1 (nodeCount f k)
+    ∙ sum-same _ _ 1 (nodeCount f k) (λ a l u. each (isLive marks a) (isLive marks (thirdNode f k j a)) (thirdNode f k j a))
+    ∙ sym (pairs-twice f k r j nj (isLive marks))
+    ∙ ap (λ (x : ℕ). 2 * x) (sym (count-is f k r marks j nj))
+  where
+    each : (x y : Bool) (t : ℕ) → _≡_ {A = ℕ} (cond x (cond (ltb 0 (cond y t 0)) 1 0) 0) (cond (ltb 0 t) (cond x (cond y 1 0) 0) 0)
+    each true true t = refl
+    each true false t = none (ltb 0 t)
+      where
+        none : (b : Bool) → _≡_ {A = ℕ} 0 (cond b 0 0)
+        none true = refl
+        none false = refl
+    each false y t = none (ltb 0 t)
+      where
+        none : (b : Bool) → _≡_ {A = ℕ} 0 (cond b 0 0)
+        none true = refl
+        none false = refl
 
 -- ---- a node's count, by the table of pairs within the live nodes or the missing ones
 

@@ -1,7 +1,7 @@
 -- How far the table of pairs within a list has come: each pair counts for the node that is related to both.
 -- Assumes nothing.
 use mathlib.Core.Path.{_≡_, refl, sym, ap, _∙_}
-use mathlib.Core.Bool.{cond, not}
+use mathlib.Core.Bool.{Bool, true, false, cond, not}
 use mathlib.Core.List.{List, map}
 use Prim.Native.Nat.{ℕ, zero, suc, _+_, _*_, _≤_, _<_}
 use native.Mathlib.Numerals.{add-one}
@@ -14,7 +14,7 @@ use mir.Val.{boolByte}
 use Rattle.families.specs.declared.Family.{Family}
 use Rattle.counts.specs.Counts.{noCounts, countOf, oneMore, countAll, sumOf}
 use Rattle.counts.proofs.Laws.{count-append, count-most, sum-one-most, sum-all-most, sum-none}
-use Rattle.pairing.specs.Inner.{thirdNode, thirds, withThird}
+use Rattle.pairing.specs.Inner.{thirdNode, thirds}
 
 -- what is left to be counted for a, from place `next` of the list on
 pub record Counting (f : Family) (k : ℕ) (list : List ℕ) (a i : ℕ) (before now : List ℕ) (next : ℕ) : Type 0 where
@@ -69,26 +69,35 @@ module _ {f : Family} {k : ℕ} {list : List ℕ} {now : List ℕ} {i : ℕ} (w 
   unfolding thirds countAll
   tabling-done h = rw (drop-of-length-le list h) at (w .rest)
 
--- what is seen of the nodes that have a third node with j, as far as place i of the list
-pub record Seeing (f : Family) (k : ℕ) (list : List ℕ) (j count i : ℕ) : Type 0 where
-  pub rest : count + withThird f k (drop i list) j ≡ withThird f k list j
+-- how many of a list have another node by a rule, which gives 0 where there is none
+abbrev pub withOther : (ℕ → ℕ) → List ℕ → ℕ
+withOther rule list = sumOf (map (λ a. cond (ltb 0 (rule a)) 1 0) list)
+
+-- those seen as far as place i of the list
+pub record Seeing (rule : ℕ → ℕ) (list : List ℕ) (count i : ℕ) : Type 0 where
+  pub rest : count + withOther rule (drop i list) ≡ withOther rule list
   pub few : count ≤ i
 
-pub seeing-none : (f : Family) (k : ℕ) (list : List ℕ) (j : ℕ) → Seeing f k list j 0 0
-seeing-none f k list j = record { rest = omega arith; few = omega arith }
+pub seeing-none : (rule : ℕ → ℕ) (list : List ℕ) → Seeing rule list 0 0
+seeing-none rule list = record { rest = omega arith; few = omega arith }
 
-module _ {f : Family} {k : ℕ} {list : List ℕ} {j count i : ℕ} (w : Seeing f k list j count i) where
-  pub seeing-more : (third : ℕ) → i < length list → third ≡ thirdNode f k j (getD list i 0) → Seeing f k list j (count + boolByte (not (eqb third 0))) (i + 1)
+module _ {rule : ℕ → ℕ} {list : List ℕ} {count i : ℕ} (w : Seeing rule list count i) where
+  pub seeing-more : (other : ℕ) → i < length list → other ≡ rule (getD list i 0) → Seeing rule list (count + boolByte (not (eqb other 0))) (i + 1)
   unfolding sumOf
-  seeing-more third h e =
+  seeing-more other h e =
       let step = rw (drop-cons list i 0 h) at (w .rest) in
-      let one = seen third in
+      let one = seen other in
       record { rest = rw (add-one i) (omega (arith, step, one .0, ap {B = ℕ} (λ (x : ℕ). cond (ltb 0 x) 1 0) e)); few = omega (arith, w .few, one .1) }
     where
       seen : (x : ℕ) → (boolByte (not (eqb x 0)) ≡ cond (ltb 0 x) 1 0) × (boolByte (not (eqb x 0)) ≤ 1)
       seen zero = (refl, omega arith)
       seen (suc x) = rw (ne-eqb (suc x) 0 (λ z. omega arith), lt-ltb 0 (suc x) (omega arith)) (refl, omega arith)
 
-  pub seeing-done : length list ≤ i → count ≡ withThird f k list j
+  pub seeing-done : length list ≤ i → count ≡ withOther rule list
   unfolding sumOf
   seeing-done h = omega (arith, rw (drop-of-length-le list h) at (w .rest))
+
+-- a number of one bit
+pub bit-most : (b : Bool) → boolByte b ≤ 1
+bit-most true = omega arith
+bit-most false = omega arith

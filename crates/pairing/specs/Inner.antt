@@ -35,6 +35,10 @@ thirds f k (a ∷ list) = map (thirdNode f k a) list ++ thirds f k list
 abbrev pub withThird : Family → ℕ → List ℕ → ℕ → ℕ
 withThird f k list j = sumOf (map (λ a. cond (ltb 0 (thirdNode f k j a)) 1 0) list)
 
+-- how many of a list have a live third node with j
+abbrev pub liveEnds : Family → ℕ → List Bool → List ℕ → ℕ → ℕ
+liveEnds f k marks list j = sumOf (map (λ a. cond (ltb 0 (livePartner f k marks j a)) 1 0) list)
+
 -- weight-two: the number of a column's lowest bit
 abbrev pub firstEnd : ℕ → ℕ
 firstEnd c = trailingZeros 64 c + 1

@@ -3,6 +3,7 @@
 // less one for each missing node of a pair, and one more for each pair that was so taken off twice.
 use crate::ends::by_degrees;
 use crate::ends::degrees;
+use crate::partner::live_partner;
 use base::wide;
 use families::Family;
 ghost use mathlib.Core.Path.{_≡_};
@@ -15,7 +16,7 @@ ghost use Rattle.families.specs.Inner.{columnTable};
 ghost use Rattle.lists.specs.Lists.{missingNodes, someOutside, liveNodes};
 ghost use Rattle.counts.specs.Counts.{noCounts, countAll, sumOf};
 ghost use Rattle.pairing.specs.Pairs.{pairCount, mostPairs};
-ghost use Rattle.pairing.specs.Inner.{thirdNode, thirds, withThird, degreesOf, SearchBegins, countEach};
+ghost use Rattle.pairing.specs.Inner.{thirdNode, thirds, withThird, degreesOf, SearchBegins, countEach, liveEnds};
 
 // One more for each node related to the node at place i of a list and one after it.
 fn count_thirds(
@@ -154,36 +155,7 @@ fn shorter_table(
     pairs_within(family, k, columns, missing)
 }
 
-// Of each node of a list how many of its pairs are both live, and 0 for every other number.
-fn count_each(
-    family: Family,
-    k: usize,
-    columns: &[usize; 256],
-    live: &[u8],
-    missing: &[u8],
-    marks: &[bool; 256],
-    nodes: &[u8],
-) -> [u16; 256]
-    requires { ⌜ SearchBegins family k (now columns) (now live) (now marks) ⌝ }
-    requires { ⌜ now missing ≡ missingNodes (now marks) (nodeCount family k) ⌝ }
-    requires { ⌜ someOutside (nodeCount family k) (now nodes) ≡ false ⌝ }
-    ensures { λ r. ⌜ r ≡ countEach family k (now (marks .entry)) noCounts (now (nodes .entry)) ⌝ }
-{
-    let few = live.len() <= missing.len();
-    let table = shorter_table(family, k, columns, live, missing, few);
-    let degrees = degrees(family, k, columns, missing, few);
-    let mut counts = [0u16; 256];
-    let mut i: usize = 0;
-    while i < nodes.len() {
-        let j = wide(nodes[i]);
-        counts[j] = (count_at(family, k, columns, missing, marks, few, &table, &degrees, j)
-            % 65536) as u16;
-        i += 1;
-    }
-    counts
-}
-
-// The same of the missing nodes, which are listed.
+// Of each missing node how many of its pairs are both live, and 0 for every other number; the missing nodes are listed.
 fn count_listed(
     family: Family,
     k: usize,
@@ -196,7 +168,18 @@ fn count_listed(
     requires { ⌜ now missing ≡ missingNodes (now marks) (nodeCount family k) ⌝ }
     ensures { λ r. ⌜ r ≡ countEach family k (now (marks .entry)) noCounts (now (missing .entry)) ⌝ }
 {
-    count_each(family, k, columns, live, missing, marks, missing)
+    let few = live.len() <= missing.len();
+    let table = shorter_table(family, k, columns, live, missing, few);
+    let degrees = degrees(family, k, columns, missing, few);
+    let mut counts = [0u16; 256];
+    let mut i: usize = 0;
+    while i < missing.len() {
+        let j = wide(missing[i]);
+        counts[j] = (count_at(family, k, columns, missing, marks, few, &table, &degrees, j)
+            % 65536) as u16;
+        i += 1;
+    }
+    counts
 }
 
 // Of each missing node how many of its pairs are both live, and 0 for every other number.
@@ -215,7 +198,31 @@ pub fn count_missing(
     count_listed(family, k, columns, live, &lost[..n - live.len()], marks)
 }
 
-// Of node j, live or missing, how many of its pairs are both live, and 0 for every other number.
+// How many live nodes have a live third node with j: each of the two nodes of a pair is one.
+fn live_ends(
+    family: Family,
+    k: usize,
+    columns: &[usize; 256],
+    live: &[u8],
+    marks: &[bool; 256],
+    j: usize,
+) -> usize
+    requires { ⌜ SearchBegins family k (now columns) (now live) (now marks) × IsNode family k j ⌝ }
+    ensures { λ r. ⌜ r ≡ liveEnds family k (now (marks .entry)) (now (live .entry)) j ⌝ }
+{
+    let mut count: usize = 0;
+    let mut i: usize = 0;
+    while i < live.len() {
+        let a = wide(live[i]);
+        let b = live_partner(family, k, columns, marks, j, a);
+        count += (b != 0) as usize;
+        i += 1;
+    }
+    count
+}
+
+// Of node j, live or missing, how many of its pairs are both live, and 0 for every other number. One node is counted by itself sooner
+// than all of them by pairs.
 pub fn count_alone(
     family: Family,
     k: usize,
@@ -227,16 +234,8 @@ pub fn count_alone(
     requires { ⌜ SearchBegins family k (now columns) (now live) (now marks) × IsNode family k j ⌝ }
     ensures { λ r. ⌜ r ≡ countEach family k (now (marks .entry)) noCounts (j ∷ []) ⌝ }
 {
-    let n = families::node_count(family, k);
-    let lost = lists::list_missing(marks, n);
-    let one = [(j % 256) as u8; 1];
-    count_each(
-        family,
-        k,
-        columns,
-        live,
-        &lost[..n - live.len()],
-        marks,
-        &one,
-    )
+    let ends = live_ends(family, k, columns, live, marks, j);
+    let mut counts = [0u16; 256];
+    counts[j] = (ends / 2 % 65536) as u16;
+    counts
 }

@@ -2,6 +2,7 @@
 // there are.
 pub mod count;
 mod ends;
+mod partner;
 pub mod search;
 
 // The pair of a node whose smaller node is least, and how many pairs the node has; zeros where it has none.

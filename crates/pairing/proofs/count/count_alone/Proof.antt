@@ -1,70 +1,43 @@
--- `pairing::count::count_alone` meets its contract: the missing nodes are listed.
+-- `pairing::count::count_alone` meets its contract: the live nodes with a live third node are twice as many as the pairs.
 -- Assumes nothing.
-use mathlib.Core.Path.{_≡_, refl, ap, _∙_}
-use mathlib.Core.List.{[]}
-use Prim.Native.Nat.{_-_, _%_, _≤_}
+use mathlib.Core.Path.{_≡_, refl, _∙_}
+use mathlib.Core.List.{[], _∷_}
+use Prim.Native.Nat.{_*_, _/_, _%_, _≤_}
 use native.Mathlib.Nat.{mod-eq-of-lt}
 use native.Mathlib.Omega.{arith}
 use denote.Ref.{now}
 use borrow.Author.Needs.{needs}
-use lib.ListN.{length, take, length-take}
 use Rattle.families.specs.Families.{nodeCount}
 use Rattle.families.proofs.Laws.{few}
-use Rattle.lists.specs.Lists.{someOutside, missingNodes}
-use Rattle.lists.proofs.Laws.{live-nodes-few, outside-cons}
-use Rattle.pairing.proofs.ListedLaws.{listed, fits-in, missing-count}
+use Rattle.pairing.specs.Pairs.{pairCount}
+use Rattle.pairing.specs.Inner.{countEach}
+use Rattle.pairing.proofs.CountLaws.{ends-twice, count-most, most-few}
 use Rattle.pairing.proofs.count.count_alone.Statement.{statement}
 use Rattle.pairing.proofs.count.count_alone.Tie as tie
 
-node-few : (e : tie.Start) → nodeCount (e .args .family) (e .args .k) ≤ 255
-node-few e = few _ _ (e .pre .0 .range)
+node-few : (e : tie.Start) → e .args .j ≤ 255
+node-few e = omega (arith, e .pre .1 .last, few _ _ (e .pre .0 .range))
 
--- the missing nodes, without the zeros after them
-missing-size : (c : tie.After-list-missing) → let g = c .before .before .before .args in c .before .node-count .result - length (now (g .live)) ≡ length (missingNodes (now (g .marks)) (nodeCount (g .family) (g .k)))
-missing-size c =
+-- half of them, as 16 bits
+half : (c : tie.After-live-ends) → let g = c .before .before .args in c .live-ends .result / 2 % 65536 ≡ pairCount (g .family) (g .k) (now (g .marks)) (g .j)
+half c =
     let e : tie.Start = search in
-    let n : tie.After-node-count = search in
-    rw (n .node-count .ensures, e .pre .0 .nodes) (missing-count (now (e .args .marks)) (nodeCount (e .args .family) (e .args .k)))
-
-missing-list : (c : tie.After-list-missing)
-    → let g = c .before .before .before .args in take (c .before .node-count .result - length (now (g .live))) (c .list-missing .result) ≡ missingNodes (now (g .marks)) (nodeCount (g .family) (g .k))
-missing-list c =
-    let n : tie.After-node-count = search in
-    listed _ (c .list-missing .result) _ (missing-size c) (rw (n .node-count .ensures) at (c .list-missing .ensures))
-
-missing-fits : (c : tie.After-list-missing) → c .before .node-count .result - length (now (c .before .before .before .args .live)) ≤ length (c .list-missing .result)
-missing-fits c = fits-in _ (c .list-missing .result) _ (missing-size c) (missing-list c)
-
-sub-lost : tie.Need-sub-lost
-sub-lost c =
-    let e : tie.Start = search in
-    let n : tie.After-node-count = search in
-    omega (arith, n .node-count .ensures, ap length (e .pre .0 .nodes), live-nodes-few (now (e .args .marks)) (nodeCount (e .args .family) (e .args .k)))
-
--- j, as the byte of a list
-byte : (e : tie.Start) → e .args .j % 256 ≡ e .args .j
-byte e = mod-eq-of-lt (omega (arith, e .pre .1 .last, node-few e))
-
-count-each-requires : tie.Need-count-each-requires
-unfolding someOutside
-count-each-requires c κs =
-    let e : tie.Start = search in
-    let p = e .pre .1 in
-    (e .pre .0, (missing-list (search), rw (byte e) (outside-cons (nodeCount (e .args .family) (e .args .k)) (e .args .j) [] (p .first) (p .last) refl)))
+    let b = e .pre .0 in
+    let n = e .pre .1 in
+    let m = now (e .args .marks) in
+    let twice : c .live-ends .result ≡ 2 * pairCount (e .args .family) (e .args .k) m (e .args .j) = c .live-ends .ensures ∙ rw (b .nodes) (ends-twice _ _ (b .range) m (e .args .j) n) in
+    mod-eq-of-lt (omega (arith, twice, count-most _ _ (b .range) m _ n, most-few _ _ (b .range) m _ n)) ∙ omega (arith, twice)
 
 returns : tie.Need-returns
-returns c = let e : tie.Start = search in c .count-each .ensures ∙ rw (byte e)
+unfolding countEach
+returns c = rw (half (search)) refl
 
 pub count-alone-spec : {M : Type 1} → statement M
 count-alone-spec =
     tie.close
     (tie.spec
-    (λ c κs. let e : tie.Start = search in e .pre .0 .range)
-    (λ c κs. let n : tie.After-node-count = search in omega (arith, n .node-count .ensures, node-few (search)))
+    (λ c κs. search)
     (λ c. search needs)
-    sub-lost
-    (λ c. missing-fits (search))
-    (λ c. rw length-take (omega (arith, missing-fits (search))))
-    (λ c. search needs)
-    count-each-requires
+    (λ c. omega (arith, node-few (search)))
+    (λ c. omega (arith, node-few (search)))
     returns)

@@ -1,31 +1,26 @@
 -- `pairing::count::with_third` meets its contract: before each turn what is counted, and what is left, make up the whole.
 -- Assumes nothing.
 use mathlib.Core.Path.{_≡_, _∙_}
-use mathlib.Core.Bool.{Bool, true, false, not}
+use mathlib.Core.Bool.{not}
 use Prim.Native.Nat.{_-_, _≤_}
 use native.Mathlib.Omega.{arith}
 use borrow.Author.Needs.{needs}
 use lib.Dec.{eqb}
-use mir.Val.{boolByte}
 use lib.ListN.{length, getD}
 use Rattle.families.specs.Families.{IsNode, nodeCount}
 use Rattle.families.proofs.Laws.{few, column}
 use Rattle.families.proofs.TableLaws.{table-at}
 use Rattle.lists.proofs.Laws.{outside-none}
 use Rattle.pairing.specs.Inner.{thirdNode}
-use Rattle.pairing.proofs.TableLaws.{Seeing, seeing-none, seeing-more, seeing-done}
+use Rattle.pairing.proofs.TableLaws.{Seeing, seeing-none, seeing-more, seeing-done, bit-most}
 use Rattle.pairing.proofs.count.with_third.Statement.{statement}
 use Rattle.pairing.proofs.count.with_third.Tie as tie
 
 abbrev Inv-loop : tie.InvT-loop
-Inv-loop family k columns list j column count₀ i₀ count i = Seeing family k list j count i
+Inv-loop family k columns list j column count₀ i₀ count i = Seeing (thirdNode family k j) list count i
 
 abbrev μ-loop : tie.MeasureT-loop
 μ-loop family k columns list j column count₀ i₀ count i = length list - i
-
-bit : (b : Bool) → boolByte b ≤ 1
-bit true = omega arith
-bit false = omega arith
 
 -- a place of the code, which `search` finds by its type
 abbrev Place : (tie.InvT-loop → tie.MeasureT-loop → Type 0) → Type 0
@@ -62,7 +57,7 @@ loop-again : tie.Need-loop-again Inv-loop μ-loop
 loop-again c = let t : Place tie.At-loop = search in seeing-more (t .loop .inv) _ (omega arith) (third-is (search))
 
 add-count : tie.Need-add-count Inv-loop μ-loop
-add-count c = let t : Place tie.At-loop = search in let g : Place tie.After-third-node = search in omega (arith, t .loop .inv .few, bit (not (eqb (g .third-node .result) 0)))
+add-count c = let t : Place tie.At-loop = search in let g : Place tie.After-third-node = search in omega (arith, t .loop .inv .few, bit-most (not (eqb (g .third-node .result) 0)))
 
 pub with-third-spec : {M : Type 1} → statement M
 with-third-spec =
@@ -72,7 +67,7 @@ with-third-spec =
     μ-loop
     (λ c. let e : Place tie.Start = search in omega (arith, e .pre .0 .2 .last, node-few e))
     (λ c. let e : Place tie.Start = search in omega (arith, e .pre .0 .2 .last, node-few e))
-    (λ c. seeing-none _ _ _ _)
+    (λ c. seeing-none _ _)
     (λ c. search needs)
     (λ c κs. search needs)
     (λ c. omega (arith, listed-node (search) .last, node-few (search)))

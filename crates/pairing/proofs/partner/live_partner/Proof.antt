@@ -1,4 +1,4 @@
--- `planning::search::live_partner` meets its contract: the only node that can be it is the one with the XOR of the columns.
+-- `pairing::partner::live_partner` meets its contract: the only node that can be it is the one with the XOR of the columns.
 -- Assumes nothing.
 use mathlib.Core.Path.{_≡_}
 use Prim.Native.Nat.{_≤_}
@@ -8,8 +8,8 @@ use borrow.Author.Tests.{not-true, not-false}
 use Rattle.families.proofs.Laws.{few, column}
 use Rattle.families.proofs.TableLaws.{table-at}
 use Rattle.pairing.proofs.PairLaws.{partner, partner-at, third-few, live-none, live-is}
-use Rattle.pairing.proofs.search.live_partner.Statement.{statement}
-use Rattle.pairing.proofs.search.live_partner.Tie as tie
+use Rattle.pairing.proofs.partner.live_partner.Statement.{statement}
+use Rattle.pairing.proofs.partner.live_partner.Tie as tie
 
 few-nodes : (e : tie.Start) → (e .args .j ≤ 255) × (e .args .a ≤ 255)
 few-nodes e = let f = few _ _ (e .pre .0 .0) in (omega (arith, e .pre .0 .1 .last), omega (arith, e .pre .0 .2 .last))
