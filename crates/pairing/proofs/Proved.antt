@@ -12,7 +12,7 @@ use Rattle.families.specs.Families.{KInRange, areRelated}
 use Rattle.lists.specs.Lists.{isLive}
 use Rattle.pairing.specs.declared.Pairs.{Pairs}
 use Rattle.pairing.specs.Pairs.{smallerNode, pairCount, pairsOf, LiveNode}
-use Rattle.pairing.specs.Claims.{IsPair, PairClaim}
+use Rattle.pairing.specs.Claims.{IsPair, SearchClaim}
 use Rattle.pairing.proofs.PairLaws.{pair-of, pairs-are, smaller-least, smaller-some}
 use Rattle.pairing.proofs.CountLaws.{count-is, count-most, pairs-all}
 use Rattle.pairing.proofs.NoneLaws.{count-none, some-count, none-count}
@@ -44,8 +44,8 @@ module _ (f : Family) (k : ℕ) (r : KInRange f k) (marks : List Bool) (j : ℕ)
       go (inl e) = ap (λ (p : Pairs). p .count) (none-given e) ∙ sym (count-none f k marks j e)
       go (inr h) = ap (λ (p : Pairs). p .count) (pairs-are f k r marks j h)
 
-pub pair-claim : PairClaim
-pair-claim f k r marks j n =
+pub search-claim : SearchClaim
+search-claim f k r marks j n =
     record {
       none = (
         (λ e a b la lb h. omega (arith, none-count f k marks j e, smaller-some f k marks j r n a b la lb h)),

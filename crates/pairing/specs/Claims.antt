@@ -17,7 +17,7 @@ pub record IsPair (f : Family) (k : ℕ) (marks : List Bool) (j a b : ℕ) : Typ
   pub related : areRelated f k a b j ≡ true
 
 -- of the pairs of node j
-pub record PairClaims (f : Family) (k : ℕ) (marks : List Bool) (j : ℕ) : Type 0 where
+pub record SearchClaims (f : Family) (k : ℕ) (marks : List Bool) (j : ℕ) : Type 0 where
   -- their number is 0 exactly where no two live nodes are related to j
   pub none : (pairCount f k marks j ≡ 0) ↔ ((a b : ℕ) → LiveNode f k marks a → LiveNode f k marks b → areRelated f k a b j ≡ true → ⊥)
   -- it is never more than where every node is live
@@ -34,5 +34,5 @@ pub record PairClaims (f : Family) (k : ℕ) (marks : List Bool) (j : ℕ) : Typ
   pub least : (a b : ℕ) → IsPair f k marks j a b → pairsOf f k marks j .smaller ≤ a
 
 -- of every family, every k in its range, all marks and every node, live or missing
-abbrev pub PairClaim : Type 0
-PairClaim = (f : Family) (k : ℕ) → KInRange f k → (marks : List Bool) (j : ℕ) → IsNode f k j → PairClaims f k marks j
+abbrev pub SearchClaim : Type 0
+SearchClaim = (f : Family) (k : ℕ) → KInRange f k → (marks : List Bool) (j : ℕ) → IsNode f k j → SearchClaims f k marks j

@@ -15,8 +15,8 @@ use Rattle.encoding.proofs.Nodes.{related-block}
 use Rattle.lists.specs.Lists.{isLive}
 use Rattle.pairing.specs.declared.Pairs.{Pairs}
 use Rattle.pairing.specs.Pairs.{pairCount, mostPairs}
-use Rattle.pairing.specs.Claims.{PairClaims, IsPair}
-use Rattle.pairing.proofs.Proved.{pair-claim}
+use Rattle.pairing.specs.Claims.{SearchClaims, IsPair}
+use Rattle.pairing.proofs.Proved.{search-claim}
 use Rattle.planning.specs.Plan.{RepairedIn}
 use Rattle.planning.specs.Claims.{FirstRoundClaims}
 use Rattle.planning.proofs.Proved.{first-round-claim}
@@ -41,8 +41,8 @@ module _ (s : Session) (sound : unsound s ≡ false) (j : ℕ) (node : IsNode (f
   range : KInRange (familyOf (s .family)) (s .k)
   range = known s sound .range .blocks
 
-  own : PairClaims (familyOf (s .family)) (s .k) (s .live) j
-  own = pair-claim (familyOf (s .family)) (s .k) range (s .live) j node
+  own : SearchClaims (familyOf (s .family)) (s .k) (s .live) j
+  own = search-claim (familyOf (s .family)) (s .k) range (s .live) j node
 
   is : pairsFound s j ≡ servedPairs s j
   is = pairs-given s j sound node
