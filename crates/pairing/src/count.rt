@@ -221,8 +221,8 @@ fn live_ends(
     count
 }
 
-// Of node j, live or missing, how many of its pairs are both live, and 0 for every other number. One node is counted by itself sooner
-// than all of them by pairs.
+// Of node j, live or missing, how many of its pairs are both live, and 0 for every other number: one pass over the live nodes, where the
+// pairs within a list would count every node.
 pub fn count_alone(
     family: Family,
     k: usize,

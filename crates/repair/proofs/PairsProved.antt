@@ -59,6 +59,7 @@ module _ (s : Session) (sound : unsound s ≡ false) (j : ℕ) (node : IsNode (f
   claims : length (s .live) ≡ 256 → PairsClaims s j
   claims size =
       record {
+        count = count-is;
         none = ((λ e. own .none .0 (sym count-is ∙ e)), (λ none. count-is ∙ own .none .1 none));
         zeros = (
           (λ e. ap (λ (r : PairsFound). r .count) e),

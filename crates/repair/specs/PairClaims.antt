@@ -9,7 +9,7 @@ use Rattle.families.specs.Families.{familyOf, IsNode, columnOf, areRelated}
 use Rattle.blocks.specs.Blocks.{xorBytes, blockOf}
 use Rattle.encoding.specs.Matrix.{nodeBlock}
 use Rattle.lists.specs.Lists.{isLive}
-use Rattle.pairing.specs.Pairs.{mostPairs, LiveNode}
+use Rattle.pairing.specs.Pairs.{pairCount, mostPairs, LiveNode}
 use Rattle.pairing.specs.Claims.{IsPair}
 use Rattle.planning.specs.Plan.{RepairedIn}
 use Rattle.repair.specs.declared.Session.{Session}
@@ -21,7 +21,9 @@ use Rattle.repair.specs.RepairClaims.{LiveAreOwn}
 
 -- of a session and one of its nodes, live or missing
 pub record PairsClaims (s : Session) (j : ℕ) : Type 0 where
-  -- the count is 0 exactly where no two live nodes are related to it, and zeros are given there alone
+  -- the count is how many of its related pairs are both live
+  pub count : pairsFound s j .count ≡ pairCount (familyOf (s .family)) (s .k) (s .live) j
+  -- it is 0 exactly where no two live nodes are related to it, and zeros are given there alone
   pub none : (pairsFound s j .count ≡ 0)
       ↔ ((a b : ℕ) → LiveNode (familyOf (s .family)) (s .k) (s .live) a → LiveNode (familyOf (s .family)) (s .k) (s .live) b → areRelated (familyOf (s .family)) (s .k) a b j ≡ true → ⊥)
   pub zeros : (pairsFound s j ≡ record { refusal = 0; smaller = 0; larger = 0; count = 0; session = s }) ↔ (pairsFound s j .count ≡ 0)
