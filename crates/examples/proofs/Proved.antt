@@ -21,8 +21,8 @@ use Rattle.interleaving.specs.Interleaved.{interleaved, deinterleaved, interlea
 use Rattle.interleaving.proofs.Answers.{kept}
 use Rattle.lists.specs.Lists.{someOutside, rises, placeIn, setLive, someMissing, passesOutside}
 use Rattle.counts.specs.Counts.{countOf, countAll, sumOf}
-use Rattle.pairing.specs.Pairs.{largerNode, smallerNode, pairCount, pairsOf}
-use Rattle.planning.specs.Plan.{isRepaired, roundsFrom, wavesOf, sourcesOf, marksAfter, stepBytes, lastRound, nodesLeft}
+use Rattle.pairing.specs.Pairs.{largerNode, smallerNode, pairCount, pairsAmong}
+use Rattle.planning.specs.Plan.{once, stepsFor, roundsFrom, planOf, wavesOf, sourcesOf, marksAfter, stepBytes, lastRound, nodesLeft}
 use Rattle.planning.specs.Made.{stepsIn}
 use Rattle.planning.proofs.RoundLaws.{length-bytes}
 use Rattle.planning.proofs.CarryLaws.{steps-back}
@@ -45,7 +45,7 @@ use Rattle.repair.proofs.RefusalsProved.{thirteen-claim, not-thirteen-claim}
 use Rattle.repair.proofs.ReadsProved.{not-reached-claim}
 use Rattle.listing.specs.Text.{decimal, field, firstLine, stepLine, lastLine, refusalLine}
 use Rattle.listing.specs.Listing.{answerOf, listingIn, listingOf}
-use Rattle.examples.specs.Examples.{Row, Encodes, Interleaves, InterleaveGives, Plans, Pairs, MostWaves, Starts, BoxGives, BoxReads, BoxHolds, BoxLacks, BoxSteps, BoxWrites, BoxNames, Converts, ConvertGives, Lists, IsSound, TurnedAway, ServedAnyway, sessionBy, allBut, HasPlan, Holds, Every, table, Examples}
+use Rattle.examples.specs.Examples.{Row, Encodes, Interleaves, InterleaveGives, Plans, Pairs, Waves, MostWaves, Starts, BoxGives, BoxReads, BoxHolds, BoxLacks, BoxSteps, BoxWrites, BoxNames, Converts, ConvertGives, Lists, IsSound, TurnedAway, ServedAnyway, sessionBy, allBut, HasPlan, Holds, Every, table, Examples}
 
 -- ---- a plan
 
@@ -118,6 +118,7 @@ Computed (InterleaveGives family k L size room number) = (firstMet (interleaveCh
 Computed (Plans family k list steps rounds left reads) =
     (firstMet (startChecks family k 1 list) ≡ 0) × (unsound (sessionOf family k 1 list) ≡ false) × HasFigures (sessionOf family k 1 list) steps rounds left reads
 Computed (Pairs family k L list j number smaller larger count) = Holds (Pairs family k L list j number smaller larger count)
+Computed (Waves family k list steps) = Holds (Waves family k list steps)
 Computed (MostWaves least most rounds) = listFrom (λ i. mostWaves (least + i)) 0 (suc most - least) ≡ replicate (suc most - least) rounds
 Computed (Starts family k L list number) = Holds (Starts family k L list number)
 Computed (BoxGives bytes number) = Holds (BoxGives bytes number)
@@ -162,6 +163,7 @@ holds (Plans family k list steps rounds left reads) (a, start, figures) = λ L h
     let same = same-checks family k L h g in
     (rw (same, a), has-plan (sessionOf family k L list) steps rounds left reads (rw same start) figures)
 holds (Pairs family k L list j number smaller larger count) c = c
+holds (Waves family k list steps) c = c
 holds (MostWaves least most rounds) c = λ k h g.
     let e : k ≡ least + (k - least) = omega arith in
     let l : k - least < suc most - least = omega arith in
@@ -199,7 +201,7 @@ _&_ : {A B : Type 0} → A → B → A × B
 a & b = (a, b)
 
 computed : Every Computed table
-unfolding started refusalLine encodeChecks parameterChecks firstMet nodesBuffer joined nodeBlock columnOf nodeCount xorBytes zipWith startChecks checkedBox boxChecks someOutside rises setLive unsound miscounted passesOutside sumOf countAll sourcesOf wavesOf roundsFrom isRepaired smallerNode largerNode pairsOf pairCount pairsChecks pairsFound firstFrom areRelated pairAt stepBytes lastRound getLastD nodesLeft thoseFrom someMissing stepsIn placeIn listFrom readBox nodesRead readChecks withBodies withBlock blockOf bodyChecks bodyOf writeChecks nodesChecks written outWritten boxOf flatMap liveChecks liveListed outListed stepChecks stepped nodesStepped listingOf answerOf listingIn firstLine stepLine lastLine field decimal converted outConverted conversionChecks renumbered newNames newBody nodeOf gradedTable below interleaveChecks interleaved deinterleaved
+unfolding started refusalLine encodeChecks parameterChecks firstMet nodesBuffer joined nodeBlock columnOf nodeCount xorBytes zipWith startChecks checkedBox boxChecks someOutside rises setLive unsound miscounted passesOutside sumOf countAll sourcesOf planOf wavesOf roundsFrom stepsFor once smallerNode largerNode pairsAmong pairCount pairsChecks pairsFound firstFrom areRelated pairAt stepBytes lastRound getLastD nodesLeft thoseFrom someMissing stepsIn placeIn listFrom readBox nodesRead readChecks withBodies withBlock blockOf bodyChecks bodyOf writeChecks nodesChecks written outWritten boxOf flatMap liveChecks liveListed outListed stepChecks stepped nodesStepped listingOf answerOf listingIn firstLine stepLine lastLine field decimal converted outConverted conversionChecks renumbered newNames newBody nodeOf gradedTable below interleaveChecks interleaved deinterleaved
 computed =
     (refl, refl)
     & (refl, λ byte. (refl, refl))
@@ -216,6 +218,7 @@ computed =
     & (refl, refl, (refl, refl, refl, refl, refl, refl))
     & (refl, refl, (refl, refl, refl, refl, refl, refl))
     & refl & refl & refl & refl & refl & refl & refl & refl & refl
+    & refl & refl & refl & refl & refl
     & refl & refl & refl & refl & refl
     & (refl, refl, (refl, refl, refl, refl, refl, refl))
     & (refl, refl, refl)

@@ -8,10 +8,12 @@ use Prim.Native.String.{String}
 use lib.ListN.{length, getD, drop, replicate}
 use Rattle.base.specs.Ranges.{thoseFrom}
 use Rattle.lists.specs.Lists.{isIn, noneLive, setLive}
+use Rattle.families.specs.Families.{familyOf}
 use Rattle.checks.specs.Checks.{firstMet}
 use Rattle.checks.specs.Parameters.{mostL}
 use Rattle.encoding.specs.Encode.{encodeAnswer, encoded}
 use Rattle.interleaving.specs.Interleaved.{interleaved, deinterleaved, interleaveAnswer, outMoved}
+use Rattle.planning.specs.Plan.{wavesOf, stepBytes}
 use Rattle.planning.specs.Made.{nodesMade, stepsIn}
 use Rattle.waves.specs.Waves.{mostWaves}
 use Rattle.boxes.specs.Box.{blockLengthIn, nodeCountIn, bodyChecks, bodyStart, bodyOf}
@@ -43,6 +45,8 @@ pub data Row : Type 0 where
   Plans : ℕ → ℕ → List ℕ → List ℕ → ℕ → List ℕ → List ℕ → Row
   -- family, k, L, the live nodes and a node; the number that the search for its pair gives, the pair, and how many pairs it has
   Pairs : ℕ → ℕ → ℕ → List ℕ → ℕ → ℕ → ℕ → ℕ → ℕ → Row
+  -- family, k and the live nodes; the steps of the waves, four numbers each
+  Waves : ℕ → ℕ → List ℕ → List ℕ → Row
   -- two k; from the one to the other, the most waves
   MostWaves : ℕ → ℕ → ℕ → Row
   -- family, k, L and a node list; the number that the start gives
@@ -121,6 +125,7 @@ Holds (Plans family k list steps rounds left reads) =
 -- the session stays
 Holds (Pairs family k L list j number smaller larger count) =
     let s = sessionOf family k L list in pairsFound s j ≡ record { refusal = number; smaller = smaller; larger = larger; count = count; session = s }
+Holds (Waves family k list steps) = stepBytes (wavesOf (familyOf family) k (setLive noneLive list)) ≡ steps
 Holds (MostWaves least most rounds) = (k : ℕ) → least ≤ k → k ≤ most → mostWaves k ≡ rounds
 Holds (Starts family k L list number) = started family k L list .refusal ≡ number
 Holds (BoxGives bytes number) = checkedBox bytes .refusal ≡ number
@@ -180,20 +185,18 @@ table =
     Encodes 1 3 1 (1 ∷ 2 ∷ 4 ∷ []) (1 ∷ 2 ∷ 3 ∷ 4 ∷ 5 ∷ 6 ∷ 7 ∷ [])
     -- b. The box above: its session; its bodies read into a nodes buffer, places of missing nodes keeping their bytes
     ∷ BoxReads sampleBox (sessionOf 1 3 1 (4 ∷ 5 ∷ 7 ∷ [])) (λ was. was 1 ∷ was 2 ∷ was 3 ∷ 4 ∷ 5 ∷ was 6 ∷ 7 ∷ [])
-    -- b. The plan above, at every L
-    ∷ Plans 1 3 (4 ∷ 5 ∷ 7 ∷ []) (1 ∷ 1 ∷ 4 ∷ 5 ∷ 1 ∷ 2 ∷ 5 ∷ 7 ∷ 1 ∷ 3 ∷ 4 ∷ 7 ∷ 2 ∷ 6 ∷ 1 ∷ 7 ∷ []) 2 [] (0 ∷ 1 ∷ 0 ∷ 0 ∷ 2 ∷ 2 ∷ 0 ∷ 3 ∷ [])
+    -- b. Its plan by document 02, K11, at every L
+    ∷ Plans 1 3 (4 ∷ 5 ∷ 7 ∷ []) (1 ∷ 1 ∷ 4 ∷ 5 ∷ 2 ∷ 2 ∷ 5 ∷ 7 ∷ 3 ∷ 3 ∷ 1 ∷ 2 ∷ 4 ∷ 6 ∷ 1 ∷ 7 ∷ []) 4 [] (0 ∷ 2 ∷ 1 ∷ 0 ∷ 1 ∷ 2 ∷ 0 ∷ 2 ∷ [])
     -- c. Simplex 2, live 1: steps 0, rounds 0, left 2
     ∷ Plans 1 2 (1 ∷ []) [] 0 (2 ∷ 3 ∷ []) []
-    -- d. Simplex 3, live 1, 2, 4: steps 4, rounds 2, left 0
-    ∷ Plans 1 3 (1 ∷ 2 ∷ 4 ∷ []) (1 ∷ 3 ∷ 1 ∷ 2 ∷ 1 ∷ 5 ∷ 1 ∷ 4 ∷ 1 ∷ 6 ∷ 2 ∷ 4 ∷ 2 ∷ 7 ∷ 1 ∷ 6 ∷ []) 2 [] (0 ∷ 3 ∷ 2 ∷ 0 ∷ 2 ∷ 0 ∷ 1 ∷ [])
+    -- d. Simplex 3, live 1, 2, 4: steps 4, rounds 4, left 0
+    ∷ Plans 1 3 (1 ∷ 2 ∷ 4 ∷ []) (1 ∷ 3 ∷ 1 ∷ 2 ∷ 2 ∷ 5 ∷ 1 ∷ 4 ∷ 3 ∷ 6 ∷ 2 ∷ 4 ∷ 4 ∷ 7 ∷ 1 ∷ 6 ∷ []) 4 [] (0 ∷ 3 ∷ 2 ∷ 0 ∷ 2 ∷ 0 ∷ 1 ∷ [])
     -- e. Weight-two 3, live 4, 6: step 1 5 4 6, left 3 (nodes 1, 2, 3)
     ∷ Plans 2 3 (4 ∷ 6 ∷ []) (1 ∷ 5 ∷ 4 ∷ 6 ∷ []) 1 (1 ∷ 2 ∷ 3 ∷ []) (0 ∷ 0 ∷ 0 ∷ 0 ∷ 1 ∷ 0 ∷ 1 ∷ [])
-    -- f. Weight-two 3, live 1, 4, 6: steps 3, rounds 2, left 0; node 3 comes from 1 and 5
-    ∷ Plans 2 3 (1 ∷ 4 ∷ 6 ∷ []) (1 ∷ 2 ∷ 1 ∷ 4 ∷ 1 ∷ 5 ∷ 4 ∷ 6 ∷ 2 ∷ 3 ∷ 1 ∷ 5 ∷ []) 2 [] (0 ∷ 2 ∷ 0 ∷ 0 ∷ 2 ∷ 1 ∷ 1 ∷ [])
-    -- g. Tetrahedron, live 1, 2, 3, 4: steps 10, rounds 2, left 0
-    ∷ Plans 3 4 (1 ∷ 2 ∷ 3 ∷ 4 ∷ [])
-    (1 ∷ 5 ∷ 1 ∷ 3 ∷ 1 ∷ 6 ∷ 1 ∷ 2 ∷ 1 ∷ 7 ∷ 2 ∷ 3 ∷ 1 ∷ 9 ∷ 2 ∷ 4 ∷ 1 ∷ 10 ∷ 3 ∷ 4 ∷ 1 ∷ 12 ∷ 1 ∷ 4
-    ∷ 2 ∷ 8 ∷ 1 ∷ 7 ∷ 2 ∷ 11 ∷ 2 ∷ 10 ∷ 2 ∷ 13 ∷ 1 ∷ 9 ∷ 2 ∷ 14 ∷ 1 ∷ 10 ∷ []) 2 [] (0 ∷ 6 ∷ 4 ∷ 3 ∷ 3 ∷ 0 ∷ 0 ∷ 1 ∷ 0 ∷ 1 ∷ 2 ∷ [])
+    -- f. Weight-two 3, live 1, 4, 6: steps 3, rounds 3, left 0; node 3 comes from 2 and 6
+    ∷ Plans 2 3 (1 ∷ 4 ∷ 6 ∷ []) (1 ∷ 2 ∷ 1 ∷ 4 ∷ 2 ∷ 3 ∷ 2 ∷ 6 ∷ 3 ∷ 5 ∷ 1 ∷ 3 ∷ []) 3 [] (0 ∷ 2 ∷ 1 ∷ 1 ∷ 1 ∷ 0 ∷ 1 ∷ [])
+    -- g. Tetrahedron, live 1, 2, 3, 4: steps 10, rounds 4, left 0
+    ∷ Plans 3 4 (1 ∷ 2 ∷ 3 ∷ 4 ∷ []) (1 ∷ 5 ∷ 1 ∷ 3 ∷ 1 ∷ 9 ∷ 2 ∷ 4 ∷ 2 ∷ 6 ∷ 1 ∷ 2 ∷ 2 ∷ 10 ∷ 3 ∷ 4 ∷ 3 ∷ 7 ∷ 2 ∷ 3 ∷ 3 ∷ 12 ∷ 1 ∷ 4 ∷ 4 ∷ 8 ∷ 1 ∷ 7 ∷ 4 ∷ 11 ∷ 2 ∷ 10 ∷ 4 ∷ 13 ∷ 4 ∷ 6 ∷ 4 ∷ 14 ∷ 3 ∷ 12 ∷ []) 4 [] (0 ∷ 4 ∷ 4 ∷ 4 ∷ 4 ∷ 0 ∷ 1 ∷ 1 ∷ 0 ∷ 0 ∷ 1 ∷ 0 ∷ 1 ∷ [])
     -- h. Tetrahedron, live 4, 8: steps 0, left 12
     ∷ Plans 3 4 (4 ∷ 8 ∷ []) [] 0 (1 ∷ 2 ∷ 3 ∷ 5 ∷ 6 ∷ 7 ∷ 9 ∷ 10 ∷ 11 ∷ 12 ∷ 13 ∷ 14 ∷ []) []
     -- i. In b's session: step 6 from 1, 7 gives 12; 4 from 1, 5 gives 11; 1 from 4, 7 gives 10
@@ -222,10 +225,14 @@ table =
     ∷ MostWaves 5 8 3
     ∷ MostWaves 9 16 4
     ∷ MostWaves 17 22 5
-    ∷ Plans 2 5 (1 ∷ 6 ∷ 10 ∷ 13 ∷ 15 ∷ [])
-    (1 ∷ 2 ∷ 1 ∷ 6 ∷ 1 ∷ 7 ∷ 6 ∷ 10 ∷ 1 ∷ 11 ∷ 10 ∷ 13 ∷ 1 ∷ 14 ∷ 13 ∷ 15
-    ∷ 2 ∷ 3 ∷ 1 ∷ 7 ∷ 2 ∷ 4 ∷ 2 ∷ 11 ∷ 2 ∷ 8 ∷ 6 ∷ 11 ∷ 2 ∷ 9 ∷ 7 ∷ 14 ∷ 2 ∷ 12 ∷ 10 ∷ 14
-    ∷ 3 ∷ 5 ∷ 1 ∷ 9 ∷ []) 3 [] (0 ∷ 3 ∷ 1 ∷ 0 ∷ 0 ∷ 0 ∷ 3 ∷ 2 ∷ 0 ∷ 1 ∷ 3 ∷ 2 ∷ 0 ∷ 2 ∷ 2 ∷ 1 ∷ [])
+    ∷ Waves 2 5 (1 ∷ 6 ∷ 10 ∷ 13 ∷ 15 ∷ []) (1 ∷ 2 ∷ 1 ∷ 6 ∷ 1 ∷ 7 ∷ 6 ∷ 10 ∷ 1 ∷ 11 ∷ 10 ∷ 13 ∷ 1 ∷ 14 ∷ 13 ∷ 15 ∷ 2 ∷ 3 ∷ 1 ∷ 7 ∷ 2 ∷ 4 ∷ 2 ∷ 11 ∷ 2 ∷ 8 ∷ 6 ∷ 11 ∷ 2 ∷ 9 ∷ 7 ∷ 14 ∷ 2 ∷ 12 ∷ 10 ∷ 14 ∷ 3 ∷ 5 ∷ 1 ∷ 9 ∷ [])
+    -- the waves of b, d, f and g: document 01's rounds
+    ∷ Waves 1 3 (4 ∷ 5 ∷ 7 ∷ []) (1 ∷ 1 ∷ 4 ∷ 5 ∷ 1 ∷ 2 ∷ 5 ∷ 7 ∷ 1 ∷ 3 ∷ 4 ∷ 7 ∷ 2 ∷ 6 ∷ 1 ∷ 7 ∷ [])
+    ∷ Waves 1 3 (1 ∷ 2 ∷ 4 ∷ []) (1 ∷ 3 ∷ 1 ∷ 2 ∷ 1 ∷ 5 ∷ 1 ∷ 4 ∷ 1 ∷ 6 ∷ 2 ∷ 4 ∷ 2 ∷ 7 ∷ 1 ∷ 6 ∷ [])
+    ∷ Waves 2 3 (1 ∷ 4 ∷ 6 ∷ []) (1 ∷ 2 ∷ 1 ∷ 4 ∷ 1 ∷ 5 ∷ 4 ∷ 6 ∷ 2 ∷ 3 ∷ 1 ∷ 5 ∷ [])
+    ∷ Waves 3 4 (1 ∷ 2 ∷ 3 ∷ 4 ∷ []) (1 ∷ 5 ∷ 1 ∷ 3 ∷ 1 ∷ 6 ∷ 1 ∷ 2 ∷ 1 ∷ 7 ∷ 2 ∷ 3 ∷ 1 ∷ 9 ∷ 2 ∷ 4 ∷ 1 ∷ 10 ∷ 3 ∷ 4 ∷ 1 ∷ 12 ∷ 1 ∷ 4 ∷ 2 ∷ 8 ∷ 1 ∷ 7 ∷ 2 ∷ 11 ∷ 2 ∷ 10 ∷ 2 ∷ 13 ∷ 1 ∷ 9 ∷ 2 ∷ 14 ∷ 1 ∷ 10 ∷ [])
+    -- and the plan of the chain
+    ∷ Plans 2 5 (1 ∷ 6 ∷ 10 ∷ 13 ∷ 15 ∷ []) (1 ∷ 2 ∷ 1 ∷ 6 ∷ 1 ∷ 11 ∷ 10 ∷ 13 ∷ 2 ∷ 3 ∷ 2 ∷ 10 ∷ 2 ∷ 8 ∷ 6 ∷ 11 ∷ 2 ∷ 14 ∷ 13 ∷ 15 ∷ 3 ∷ 4 ∷ 1 ∷ 8 ∷ 3 ∷ 5 ∷ 3 ∷ 14 ∷ 3 ∷ 7 ∷ 6 ∷ 10 ∷ 3 ∷ 12 ∷ 11 ∷ 15 ∷ 4 ∷ 9 ∷ 1 ∷ 5 ∷ []) 4 [] (0 ∷ 3 ∷ 1 ∷ 1 ∷ 0 ∷ 1 ∷ 3 ∷ 0 ∷ 1 ∷ 0 ∷ 3 ∷ 2 ∷ 0 ∷ 2 ∷ 1 ∷ 2 ∷ [])
     -- From the box above, the body of node 5 is the part at byte 12; that of node 6, which is missing, gives 12 and an empty part
     ∷ BoxHolds sampleBox 5 12 (5 ∷ [])
     ∷ BoxLacks sampleBox 6 12
@@ -265,7 +272,7 @@ table =
     ∷ InterleaveGives 2 23 0 6 6 2
     ∷ InterleaveGives 4 23 0 6 6 1
     -- The box above makes the lister print, whole, these six lines
-    ∷ Lists sampleBox "family 1 k 3 length 1 live 3\n1 1 4 5\n1 2 5 7\n1 3 4 7\n2 6 1 7\nsteps 4 rounds 2 left 0\n"
+    ∷ Lists sampleBox "family 1 k 3 length 1 live 3\n1 1 4 5\n2 2 5 7\n3 3 1 2\n4 6 1 7\nsteps 4 rounds 4 left 0\n"
     -- Weight-two 4 and the tetrahedron with an object whose data block i is 2^(i − 1): each node holds its column
     ∷ Encodes 2 4 1 (1 ∷ 2 ∷ 4 ∷ 8 ∷ []) (1 ∷ 2 ∷ 4 ∷ 8 ∷ 3 ∷ 5 ∷ 9 ∷ 6 ∷ 10 ∷ 12 ∷ [])
     ∷ Encodes 3 4 1 (1 ∷ 2 ∷ 4 ∷ 8 ∷ []) (1 ∷ 2 ∷ 4 ∷ 8 ∷ 5 ∷ 3 ∷ 6 ∷ 7 ∷ 10 ∷ 12 ∷ 14 ∷ 9 ∷ 11 ∷ 13 ∷ [])

@@ -2,7 +2,7 @@
 -- Assumes nothing.
 use mathlib.Core.Path.{_≡_, refl, sym, ap, ap₂, _∙_}
 use mathlib.Core.Bool.{Bool, true, false, cond, _||_, false≢true, or-false}
-use mathlib.Core.List.{List, [], _∷_, _++_}
+use mathlib.Core.List.{List, List·Memᴰ, List·Memᴰ·head, [], _∷_, _++_}
 use mathlib.Core.Logic.{_⊎_, inl, inr, ⊎-elim}
 use Prim.Native.Nat.{ℕ, zero, suc, _+_, _-_, _≤_, _<_}
 use native.Mathlib.Nat.{eq-or-lt-of-le}
@@ -173,6 +173,12 @@ has-below : (j : ℕ) (list : List ℕ) (i : ℕ) → RisesFrom j list → i < j
 unfolding placeIn
 has-below j [] i r h = refl
 has-below j (x ∷ list) i r h = has-cons x list i ∙ simp (ne-eqb x i (λ e. omega arith), has-below (suc x) list i (r .1) (omega arith))
+
+-- a list rises after a number below all of it
+pub rises-cons : (x : ℕ) (list : List ℕ) → ((y : ℕ) → List·Memᴰ y list → x < y) → rises list ≡ true → rises (x ∷ list) ≡ true
+unfolding rises
+rises-cons x [] h r = refl
+rises-cons x (y ∷ list) h r = and-both (ltb x y) (rises (y ∷ list)) (lt-ltb x y (h y (List·Memᴰ·head refl))) r
 
 -- in a list that rises the first number is not among the others, and these rise too
 pub rises-both : (x : ℕ) (list : List ℕ) → rises (x ∷ list) ≡ true → (isIn list x ≡ false) × (rises list ≡ true)

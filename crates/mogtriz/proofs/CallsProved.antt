@@ -9,7 +9,6 @@ use native.Mathlib.Omega.{arith}
 use lib.ListN.{length, take, drop, length-map}
 use lib.Seq.{take-append-seam}
 use Rattle.boxes.specs.Box.{namesIn}
-use Rattle.waves.specs.Waves.{mostWaves}
 use Rattle.repair.specs.declared.Session.{Session}
 use Rattle.repair.specs.Session.{Arrays}
 use Rattle.repair.specs.Refusals.{NotThirteen}
@@ -84,7 +83,7 @@ counted-c-claim family k L list e calls =
 no-rounds : (s : MarkedSession) → someAbove1 (s .live) ≡ true → RoundsC s
 no-rounds s e =
     let t = thirteen-c-claim s (inl e) in
-    let none : 0 ≤ mostWaves (s .k) = omega arith in
+    let none : 0 ≤ 0 = omega arith in
     record {
       plan = λ out. rw (turned-away-claim s .plan out (λ z. omega (arith, z, t .plan out)) .0) none;
       run = λ nodes. rw (turned-away-claim s .run nodes (λ z. omega (arith, z, t .run nodes)) .0) none;
@@ -98,11 +97,7 @@ rounds-c-claim s marks = go (someAbove1 (s .live)) refl
     go true e = no-rounds s e
     go false e =
         let own = rounds-claim (sessionOfC s) (rw (of-low s e) (length-map (s .live) markOf ∙ marks)) in
-        let k : sessionOfC s .k ≡ s .k = rw (of-low s e) in
-        record {
-          plan = λ out. subst (λ (x : ℕ). planned (sessionOfC s) out .rounds ≤ mostWaves x) k (own .plan out);
-          run = λ nodes. subst (λ (x : ℕ). ran (sessionOfC s) nodes .rounds ≤ mostWaves x) k (own .run nodes);
-        }
+        record { plan = own .plan-few; run = own .run-few }
 
 -- what is claimed of a session holds of its C form
 pub own-agrees : (object : List ℕ) (s : Session) (nodes : List ℕ) (moves : List Move) → OwnClaims object s nodes moves → OwnC object (sessionForC s) nodes moves

@@ -22,7 +22,6 @@ use Rattle.conversion.specs.Claims.{boxLeft, BodiesBy}
 use Rattle.pairing.specs.Pairs.{mostPairs, NoPairLeft}
 use Rattle.planning.specs.Plan.{timesRead}
 use Rattle.leftover.specs.Open.{Open, OpenCount}
-use Rattle.waves.specs.Waves.{mostWaves}
 use Rattle.repair.specs.declared.Session.{Session}
 use Rattle.repair.specs.declared.Started.{Started}
 use Rattle.repair.specs.Session.{refusedStart, started, unsound}
@@ -179,10 +178,10 @@ AgreeClaim = (s : Session) → Agree s
 
 -- ---- how many rounds there are
 
--- so many at most, by k, in what mogtriz_plan and mogtriz_run give, refused or not
+-- at most as many as steps, in what mogtriz_plan and mogtriz_run give, refused or not
 pub record RoundsC (s : MarkedSession) : Type 0 where
-  pub plan : (out : List ℕ) → plannedC s out .rounds ≤ mostWaves (s .k)
-  pub run : (nodes : List ℕ) → ranC s nodes .rounds ≤ mostWaves (s .k)
+  pub plan : (out : List ℕ) → plannedC s out .rounds ≤ plannedC s out .steps
+  pub run : (nodes : List ℕ) → ranC s nodes .rounds ≤ ranC s nodes .steps
 
 abbrev pub RoundsCClaim : Type 0
 RoundsCClaim = (s : MarkedSession) → length (s .live) ≡ 256 → RoundsC s

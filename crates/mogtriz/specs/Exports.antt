@@ -8,7 +8,7 @@ use Rattle.checks.specs.Parameters.{parameterChecks}
 
 -- the version of the C interface, raised when a layout or an answer changes
 abbrev pub interfaceVersion : ℕ
-interfaceVersion = 5
+interfaceVersion = 6
 
 -- n; 0 where refusal 1 or 2 is due, whatever L is
 unfoldable pub nodeCountOr0 : ℕ → ℕ → ℕ

@@ -13,7 +13,7 @@ ghost use Rattle.mogtriz.specs.Exports.{interfaceVersion, nodeCountOr0, 
 pub extern "C" fn mogtriz_version() -> usize
     ensures { λ r. ⌜ r ≡ interfaceVersion ⌝ }
 {
-    5
+    6
 }
 
 // Encodes: 0, or the refusal's number, and then nothing is written.

@@ -3,12 +3,11 @@
 use mathlib.Core.Path.{_≡_, refl, _∙_}
 use mathlib.Core.Bool.{Bool}
 use mathlib.Core.List.{List, List·Memᴰ, List·Memᴰ·head, List·Memᴰ·tail, [], _∷_}
-use mathlib.Core.Logic.{_⊎_, inl, inr}
 use Prim.Native.Nat.{ℕ, _+_, _≤_, _<_}
 use native.Mathlib.Decide.{ℕ-discrete}
 use native.Mathlib.Numerals.{add-one}
 use native.Mathlib.Omega.{arith}
-use lib.ListN.{length, getD, set, drop, drop-of-length-le, length-set, length-replicate, getD-replicate}
+use lib.ListN.{length, getD, set, drop, drop-of-length-le, length-set}
 use lib.Seq.{drop-cons, getD-set-same, getD-set-other}
 use Rattle.families.specs.declared.Family.{Family}
 use Rattle.counts.specs.Counts.{noCounts, countOf}
@@ -54,19 +53,3 @@ module _ (f : Family) (k : ℕ) (marks : List Bool) where
   each-listed counts {j = j} h (List·Memᴰ·head {x} {xs} e) =
       each-keeps (set counts x (pairCount f k marks x)) xs j (omega (arith, length-set counts x (pairCount f k marks x))) (rw e (getD-set-same counts x (pairCount f k marks x) 0 (omega arith)))
   each-listed counts h (List·Memᴰ·tail {x} m) = each-listed (set counts x (pairCount f k marks x)) (omega (arith, length-set counts x (pairCount f k marks x))) m
-
-  -- each count is 0 or the number's own
-  own-each : (counts list : List ℕ) (j : ℕ) → j < length counts → (countOf counts j ≡ 0) ⊎ (countOf counts j ≡ pairCount f k marks j)
-      → (countOf (countEach f k marks counts list) j ≡ 0) ⊎ (countOf (countEach f k marks counts list) j ≡ pairCount f k marks j)
-  unfolding countEach
-  own-each counts [] j h o = o
-  own-each counts (x ∷ list) j h o = own-each (set counts x (pairCount f k marks x)) list j (omega (arith, length-set counts x (pairCount f k marks x))) (go (ℕ-discrete j x) o)
-    where
-      go : Dec (j ≡ x) → (countOf counts j ≡ 0) ⊎ (countOf counts j ≡ pairCount f k marks j)
-          → (countOf (set counts x (pairCount f k marks x)) j ≡ 0) ⊎ (countOf (set counts x (pairCount f k marks x)) j ≡ pairCount f k marks j)
-      go (yes q) o = inr (rw q (getD-set-same counts x (pairCount f k marks x) 0 (omega arith)))
-      go (no n) (inl e) = inl (getD-set-other counts x j (pairCount f k marks x) 0 n ∙ e)
-      go (no n) (inr e) = inr (getD-set-other counts x j (pairCount f k marks x) 0 n ∙ e)
-
-  pub own-counts : (list : List ℕ) (j : ℕ) → j < 256 → (countOf (countEach f k marks noCounts list) j ≡ 0) ⊎ (countOf (countEach f k marks noCounts list) j ≡ pairCount f k marks j)
-  own-counts list j h = own-each noCounts list j (rw (length-replicate {A = ℕ} 256 0) h) (inl (getD-replicate 256 j 0 0 h))

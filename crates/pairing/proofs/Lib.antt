@@ -9,6 +9,6 @@ pub mod TableLaws
 pub mod DegreeLaws
 pub mod EachLaws
 pub mod ListedLaws
-pub mod OneLaws
 pub mod SearchLaws
+pub mod OneLaws
 pub mod Proved

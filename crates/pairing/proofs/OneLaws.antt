@@ -9,17 +9,18 @@ use native.Mathlib.Nat.{eq-zero-or-pos}
 use native.Mathlib.Decide.{ℕ-discrete}
 use native.Mathlib.Omega.{arith}
 use borrow.Author.Tests.{lt-ltb, le-ltb, ne-eqb}
-use lib.Dec.{ltb}
 use lib.ListN.{length-replicate, getD-replicate}
 use Rattle.base.proofs.First.{first-of, first-none}
+use Rattle.base.proofs.Tests.{and-both}
 use Rattle.families.specs.declared.Family.{Family}
 use Rattle.families.specs.Families.{KInRange, IsNode, nodeCount}
 use Rattle.families.proofs.Laws.{few}
 use Rattle.counts.specs.Counts.{noCounts, countOf}
-use Rattle.pairing.specs.Pairs.{pairCount, pairsOf}
-use Rattle.pairing.specs.Inner.{countEach, nextCounted, foundAt}
+use Rattle.pairing.specs.Pairs.{smallerNode, pairCount, pairsAmong, pairsOf}
+use Rattle.pairing.specs.Inner.{countEach, nextFound, foundAt}
 use Rattle.pairing.proofs.EachLaws.{each-listed, each-other}
-use Rattle.pairing.proofs.NoneLaws.{none-count}
+use Rattle.pairing.proofs.NoneLaws.{some-count, none-count}
+use Rattle.pairing.proofs.SearchLaws.{isFound}
 
 module _ (f : Family) (k : ℕ) (r : KInRange f k) (marks : List Bool) (j : ℕ) (nj : IsNode f k j) where
   abbrev counts : List ℕ
@@ -35,26 +36,25 @@ module _ (f : Family) (k : ℕ) (r : KInRange f k) (marks : List Bool) (j : ℕ)
       out (List·Memᴰ·head e) = n e
       out (List·Memᴰ·tail m) = List·Memᴰ·not-nil m
 
-  pub found-alone : foundAt f k marks (nextCounted counts (nodeCount f k) (j - 1)) .pairs ≡ pairsOf f k marks j
-  unfolding foundAt pairsOf
+  pub found-alone : foundAt f k marks counts (nextFound f k marks counts (j - 1)) .pairs ≡ pairsOf f k marks j
+  unfolding foundAt pairsAmong
   found-alone = go (eq-zero-or-pos (pairCount f k marks j))
     where
-      test : ℕ → Bool
-      test i = ltb 0 (countOf counts i)
-
       from : suc (j - 1) ≡ j
       from = omega (arith, nj .first)
 
-      go : (pairCount f k marks j ≡ 0) ⊎ (0 < pairCount f k marks j) → foundAt f k marks (nextCounted counts (nodeCount f k) (j - 1)) .pairs ≡ pairsOf f k marks j
+      go : (pairCount f k marks j ≡ 0) ⊎ (0 < pairCount f k marks j) → foundAt f k marks counts (nextFound f k marks counts (j - 1)) .pairs ≡ pairsOf f k marks j
       go (inl e) =
-          let none : nextCounted counts (nodeCount f k) (j - 1) ≡ 0 =
-          first-none (λ i. ltb 0 (countOf counts i)) (suc (j - 1)) (nodeCount f k - (j - 1)) (λ i l u. le-ltb 0 (countOf counts i) (zero-at i (omega (arith, few f k r)) (ℕ-discrete i j))) in
+          let none : nextFound f k marks counts (j - 1) ≡ 0 =
+          first-none (isFound f k marks counts) (suc (j - 1)) (nodeCount f k - (j - 1)) (λ i l u. rw (le-ltb 0 (countOf counts i) (zero-at i (omega (arith, few f k r)) (ℕ-discrete i j)))) in
           rw (none, none-count f k marks j e)
         where
           zero-at : (i : ℕ) → i < 256 → Dec (i ≡ j) → countOf counts i ≤ 0
           zero-at i h (yes q) = omega (arith, ap (countOf counts) q, own, e)
           zero-at i h (no n) = omega (arith, other i h n)
       go (inr h) =
-          let found : nextCounted counts (nodeCount f k) (j - 1) ≡ j =
-          first-of (λ i. ltb 0 (countOf counts i)) (suc (j - 1)) (nodeCount f k - (j - 1)) j (omega (arith, from)) (omega (arith, nj .first, nj .last)) (lt-ltb 0 (countOf counts j) (omega (arith, own))) (λ i l u. absurd (omega (arith, from))) in
-          rw (found, ne-eqb j 0 (λ z. omega (arith, nj .first)))
+          let small = some-count f k marks j h in
+          let found : nextFound f k marks counts (j - 1) ≡ j =
+          first-of (isFound f k marks counts) (suc (j - 1)) (nodeCount f k - (j - 1)) j (omega (arith, from)) (omega (arith, nj .first, nj .last))
+          (and-both _ _ (lt-ltb 0 (countOf counts j) (omega (arith, own))) (lt-ltb 0 (smallerNode f k marks j) small)) (λ i l u. absurd (omega (arith, from))) in
+          rw (found, ne-eqb j 0 (λ z. omega (arith, nj .first)), ne-eqb (smallerNode f k marks j) 0 (λ z. omega arith), own)

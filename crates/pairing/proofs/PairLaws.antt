@@ -25,7 +25,7 @@ use Rattle.base.proofs.First.{first-of, first-none, first-least, found}
 use Rattle.families.proofs.Laws.{few, node-is, node-of, related-differ, related-turn, related-swap}
 use Rattle.families.proofs.TableLaws.{table-at}
 use Rattle.lists.specs.Lists.{isLive, liveNodes}
-use Rattle.pairing.specs.Pairs.{largerNode, smallerNode, pairCount, pairsOf, LiveNode}
+use Rattle.pairing.specs.Pairs.{largerNode, smallerNode, pairCount, pairsAmong, LiveNode}
 use Rattle.pairing.specs.Inner.{thirdNode, livePartner}
 
 -- ---- the node related to two others
@@ -253,10 +253,19 @@ module _ (f : Family) (k : ℕ) (r : KInRange f k) (marks : List Bool) (j : ℕ)
         related = l .related;
       }
 
-  -- what the search gives of it
-  pub pairs-are : 1 ≤ small → pairsOf f k marks j ≡ record { smaller = small; larger = large; count = pairCount f k marks j }
-  unfolding pairsOf
-  pairs-are h = rw (ne-eqb small 0 (λ z. omega arith))
+  -- what the search gives of it, whichever other nodes are live
+  pub pairs-are : (all : List Bool) → 1 ≤ small → pairsAmong f k all marks j ≡ record { smaller = small; larger = large; count = pairCount f k all j }
+  unfolding pairsAmong
+  pairs-are all h = rw (ne-eqb small 0 (λ z. omega arith))
+
+-- of the pair that the search gives the smaller node is this, in any case
+pub among-smaller : (f : Family) (k : ℕ) (marks free : List Bool) (j : ℕ) → pairsAmong f k marks free j .smaller ≡ smallerNode f k free j
+unfolding pairsAmong
+among-smaller f k marks free j = go (eq-zero-or-pos (smallerNode f k free j))
+  where
+    go : (smallerNode f k free j ≡ 0) ⊎ (0 < smallerNode f k free j) → pairsAmong f k marks free j .smaller ≡ smallerNode f k free j
+    go (inl e) = rw e
+    go (inr h) = rw (ne-eqb (smallerNode f k free j) 0 (λ z. omega arith))
 
 -- ---- two live nodes related to a node give it a pair
 

@@ -11,9 +11,9 @@ use Rattle.families.specs.declared.Family.{Family}
 use Rattle.families.specs.Families.{KInRange, areRelated}
 use Rattle.lists.specs.Lists.{isLive}
 use Rattle.pairing.specs.declared.Pairs.{Pairs}
-use Rattle.pairing.specs.Pairs.{smallerNode, pairCount, pairsOf, LiveNode}
+use Rattle.pairing.specs.Pairs.{smallerNode, pairCount, pairsAmong, pairsOf, LiveNode}
 use Rattle.pairing.specs.Claims.{IsPair, SearchClaim}
-use Rattle.pairing.proofs.PairLaws.{pair-of, pairs-are, smaller-least, smaller-some}
+use Rattle.pairing.proofs.PairLaws.{pair-of, pairs-are, among-smaller, smaller-least, smaller-some}
 use Rattle.pairing.proofs.CountLaws.{count-is, count-most, pairs-all}
 use Rattle.pairing.proofs.NoneLaws.{count-none, some-count, none-count}
 
@@ -22,27 +22,20 @@ module _ (f : Family) (k : ℕ) (r : KInRange f k) (marks : List Bool) (j : ℕ)
   found : 1 ≤ smallerNode f k marks j → IsPair f k marks j (pairsOf f k marks j .smaller) (pairsOf f k marks j .larger)
   found h =
       let p = pair-of f k r marks j h in
-      rw (pairs-are f k r marks j h)
+      rw (pairs-are f k r marks j marks h)
       (record { order = p .order; smaller = record { node = p .smaller; live = p .smaller-live }; larger = record { node = p .larger; live = p .larger-live }; related = p .related })
 
   none-given : smallerNode f k marks j ≡ 0 → pairsOf f k marks j ≡ record { smaller = 0; larger = 0; count = 0 }
-  unfolding pairsOf
+  unfolding pairsAmong
   none-given e = rw e
 
-  -- what the search gives has the smaller node, and the count
-  smaller-given : pairsOf f k marks j .smaller ≡ smallerNode f k marks j
-  smaller-given = go (eq-zero-or-pos (smallerNode f k marks j))
-    where
-      go : (smallerNode f k marks j ≡ 0) ⊎ (0 < smallerNode f k marks j) → pairsOf f k marks j .smaller ≡ smallerNode f k marks j
-      go (inl e) = ap (λ (p : Pairs). p .smaller) (none-given e) ∙ sym e
-      go (inr h) = ap (λ (p : Pairs). p .smaller) (pairs-are f k r marks j h)
-
+  -- the count that it gives, in any case
   count-given : pairsOf f k marks j .count ≡ pairCount f k marks j
   count-given = go (eq-zero-or-pos (smallerNode f k marks j))
     where
       go : (smallerNode f k marks j ≡ 0) ⊎ (0 < smallerNode f k marks j) → pairsOf f k marks j .count ≡ pairCount f k marks j
       go (inl e) = ap (λ (p : Pairs). p .count) (none-given e) ∙ sym (count-none f k marks j e)
-      go (inr h) = ap (λ (p : Pairs). p .count) (pairs-are f k r marks j h)
+      go (inr h) = ap (λ (p : Pairs). p .count) (pairs-are f k r marks j marks h)
 
 pub search-claim : SearchClaim
 search-claim f k r marks j n =
@@ -56,7 +49,7 @@ search-claim f k r marks j n =
       count = count-given f k r marks j;
       zeros = ((λ e. sym (count-given f k r marks j) ∙ ap (λ (p : Pairs). p .count) e), (λ e. none-given f k r marks j (none-count f k marks j e)));
       given = λ h. found f k r marks j (some-count f k marks j h);
-      least = λ a b p. omega (arith, smaller-given f k r marks j, smaller-least f k marks j a b (p .smaller) (p .larger) (p .order) (p .related));
+      least = λ a b p. omega (arith, among-smaller f k marks marks j, smaller-least f k marks j a b (p .smaller) (p .larger) (p .order) (p .related));
     }
   where
     go : ((a b : ℕ) → LiveNode f k marks a → LiveNode f k marks b → areRelated f k a b j ≡ true → ⊥)

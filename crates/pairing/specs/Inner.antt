@@ -1,8 +1,7 @@
 -- For inner functions: third nodes, the numbers of weight-two's nodes, what a search goes by, the counts that it is handed, and what it finds.
 use mathlib.Core.Path.{_≡_}
-use mathlib.Core.Bool.{Bool, cond}
+use mathlib.Core.Bool.{Bool, cond, _&&_}
 use mathlib.Core.List.{List, [], _∷_, _++_, map}
-use mathlib.Core.Logic.{_⊎_}
 use Prim.Native.Nat.{ℕ, suc, _+_, _-_, _^_}
 use lib.Bits.{bitXor}
 use lib.Count.{trailingZeros}
@@ -11,11 +10,11 @@ use lib.ListN.{set, replicate}
 use Rattle.base.specs.Ranges.{firstFrom}
 use Rattle.families.specs.declared.Family.{Family}
 use Rattle.families.specs.declared.Family.the-variants.{Simplex, WeightTwo, Tetrahedron}
-use Rattle.families.specs.Families.{KInRange, IsNode, nodeCount, columnOf, nodeOf}
+use Rattle.families.specs.Families.{KInRange, nodeCount, columnOf, nodeOf}
 use Rattle.families.specs.Inner.{columnTable}
 use Rattle.lists.specs.Lists.{isLive, liveNodes}
 use Rattle.counts.specs.Counts.{countOf, countAll, sumOf}
-use Rattle.pairing.specs.Pairs.{pairCount, pairsOf}
+use Rattle.pairing.specs.Pairs.{largerNode, smallerNode, pairCount}
 use Rattle.pairing.specs.declared.Found.{Found}
 
 -- the node related to two others; 0 where there is none
@@ -62,7 +61,7 @@ degreesOf Simplex k list = noDegrees
 degreesOf WeightTwo k list = countAll noDegrees (endsOf k list)
 degreesOf Tetrahedron k list = noDegrees
 
--- what a search goes by: the columns by node number, and the live nodes
+-- what a search goes by: the columns by node number, and the list of the nodes of marks, be they the live ones or those that may be read
 pub record SearchBegins (f : Family) (k : ℕ) (columns live : List ℕ) (marks : List Bool) : Type 0 where
   pub range : KInRange f k
   pub table : columns ≡ columnTable f k
@@ -73,15 +72,12 @@ unfoldable pub countEach : Family → ℕ → List Bool → List ℕ → List �
 countEach f k marks counts [] = counts
 countEach f k marks counts (j ∷ list) = countEach f k marks (set counts j (pairCount f k marks j)) list
 
--- each count is 0 or the node's own
-abbrev pub OwnCounts : Family → ℕ → List Bool → List ℕ → Type 0
-OwnCounts f k marks counts = (j : ℕ) → IsNode f k j → (countOf counts j ≡ 0) ⊎ (countOf counts j ≡ pairCount f k marks j)
+-- the first node above another one whose count is not 0 and that has a pair of the nodes that may be read; 0 where there is none
+abbrev pub nextFound : Family → ℕ → List Bool → List ℕ → ℕ → ℕ
+nextFound f k free counts after = firstFrom (λ j. ltb 0 (countOf counts j) && ltb 0 (smallerNode f k free j)) (suc after) (nodeCount f k - after)
 
--- the first node above another one whose count is not 0; 0 where there is none
-abbrev pub nextCounted : List ℕ → ℕ → ℕ → ℕ
-nextCounted counts n after = firstFrom (λ j. ltb 0 (countOf counts j)) (suc after) (n - after)
-
--- a node and its pairs; zeros for node 0
-unfoldable pub foundAt : Family → ℕ → List Bool → ℕ → Found
-foundAt f k marks j =
-    cond (eqb j 0) (record { node = 0; pairs = record { smaller = 0; larger = 0; count = 0 } }) (record { node = j; pairs = pairsOf f k marks j })
+-- a node with its least pair of the nodes that may be read, and its count; zeros for node 0
+unfoldable pub foundAt : Family → ℕ → List Bool → List ℕ → ℕ → Found
+foundAt f k free counts j =
+    let a = smallerNode f k free j in
+    cond (eqb j 0) (record { node = 0; pairs = record { smaller = 0; larger = 0; count = 0 } }) (record { node = j; pairs = record { smaller = a; larger = largerNode f k free j a; count = countOf counts j } })

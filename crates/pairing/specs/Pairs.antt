@@ -1,5 +1,5 @@
 -- The pairs of a node: two live nodes related to it. The pair that repairs it is the one of which the smaller node is least (document 01,
--- "Plan"), and besides there is how many pairs it has (document 02, K4).
+-- "Plan"), of the nodes that may still be read (document 02, K11), and besides there is how many pairs it has (document 02, K4).
 use mathlib.Core.Path.{_≡_}
 use mathlib.Core.Bool.{Bool, true, false, cond, _&&_}
 use mathlib.Core.List.{List, flatMap}
@@ -29,11 +29,16 @@ relatedAbove f k kind j a = thoseFrom (λ b. kind b && areRelated f k a b j) (su
 unfoldable pub pairCount : Family → ℕ → List Bool → ℕ → ℕ
 pairCount f k marks j = length (flatMap (relatedAbove f k (isLive marks) j) (liveNodes marks (nodeCount f k)))
 
--- what the search for a pair of node j gives: the pair, and how many there are; zeros where there is none
-unfoldable pub pairsOf : Family → ℕ → List Bool → ℕ → Pairs
-pairsOf f k marks j =
-    let a = smallerNode f k marks j in
-    cond (eqb a 0) (record { smaller = 0; larger = 0; count = 0 }) (record { smaller = a; larger = largerNode f k marks j a; count = pairCount f k marks j })
+-- what the search for a pair of node j gives, where of the live nodes only those of `free` may be read: the least pair of these, and how
+-- many pairs are live, whether they may be read or not; zeros where there is no such pair
+unfoldable pub pairsAmong : Family → ℕ → List Bool → List Bool → ℕ → Pairs
+pairsAmong f k marks free j =
+    let a = smallerNode f k free j in
+    cond (eqb a 0) (record { smaller = 0; larger = 0; count = 0 }) (record { smaller = a; larger = largerNode f k free j a; count = pairCount f k marks j })
+
+-- by itself, for any node: every live node may be read
+abbrev pub pairsOf : Family → ℕ → List Bool → ℕ → Pairs
+pairsOf f k marks j = pairsAmong f k marks marks j
 
 -- how many pairs a node has where every node is live
 unfoldable pub mostPairs : Family → ℕ → ℕ

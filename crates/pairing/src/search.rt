@@ -9,28 +9,27 @@ ghost use mathlib.Core.Path.{_≡_};
 ghost use Prim.Native.Nat.{_≤_};
 ghost use Rattle.families.specs.Families.{KInRange, IsNode, nodeCount};
 ghost use Rattle.pairing.specs.Pairs.{pairsOf};
-ghost use Rattle.pairing.specs.Inner.{SearchBegins, OwnCounts, nextCounted, foundAt};
+ghost use Rattle.pairing.specs.Inner.{SearchBegins, nextFound, foundAt};
 
 struct Pair {
     smaller: usize,
     larger: usize,
 }
 
-// The first node above `after` whose count is not 0, with its pair and that count: how many related pairs of it are both live. `live`
-// lists the live nodes of the marks: the first members, upward.
+// The first node above `after` whose count is not 0 and that has a pair of free nodes, those that may be read: with its least such pair,
+// and its count. `list` has the free nodes: the first members, upward.
 pub fn find_next(
     family: Family,
     k: usize,
     columns: &[usize; 256],
-    live: &[u8],
-    marks: &[bool; 256],
+    list: &[u8],
+    free: &[bool; 256],
     counts: &[u16; 256],
     after: usize,
 ) -> Found
-    requires { ⌜ SearchBegins family k (now columns) (now live) (now marks) ⌝ }
-    requires { ⌜ OwnCounts family k (now marks) (now counts) ⌝ }
+    requires { ⌜ SearchBegins family k (now columns) (now list) (now free) ⌝ }
     requires { ⌜ after ≤ nodeCount family k ⌝ }
-    ensures { λ r. ⌜ r ≡ foundAt family k (now (marks .entry)) (nextCounted (now (counts .entry)) (nodeCount family k) after) ⌝ }
+    ensures { λ r. ⌜ r ≡ foundAt family k (now (free .entry)) (now (counts .entry)) (nextFound family k (now (free .entry)) (now (counts .entry)) after) ⌝ }
 {
     let n = families::node_count(family, k);
     let mut node = after;
@@ -42,11 +41,11 @@ pub fn find_next(
         }
         let mut i: usize = 0;
         let pair = 'search: loop {
-            if live.len() <= i {
+            if list.len() <= i {
                 continue 'walk;
             }
-            let a = wide(live[i]);
-            let b = live_partner(family, k, columns, marks, node, a);
+            let a = wide(list[i]);
+            let b = live_partner(family, k, columns, free, node, a);
             if b != 0 {
                 break 'search Pair {
                     smaller: a,
@@ -74,7 +73,7 @@ pub fn find_next(
     }
 }
 
-// The search by itself, for one node, live or missing: the walk in which that node alone is counted.
+// The search by itself, for one node, live or missing: the walk in which that node alone is counted, and every live node is free.
 pub fn pairs_of(family: Family, k: usize, marks: [bool; 256], j: usize) -> Pairs
     requires { ⌜ KInRange family k × IsNode family k j ⌝ }
     ensures { λ r. ⌜ r ≡ pairsOf family k marks j ⌝ }

@@ -6,5 +6,10 @@ pub mod RepairedLaws
 pub mod PlanLaws
 pub mod WaveLaws
 pub mod PlannedLaws
+pub mod FreeLaws
+pub mod WithLaws
+pub mod TurnLaws
+pub mod RoundsLaws
+pub mod AgainstWaves
 pub mod CarryLaws
 pub mod Proved

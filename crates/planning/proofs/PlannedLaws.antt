@@ -2,23 +2,22 @@
 -- Assumes nothing.
 use mathlib.Core.Path.{_≡_, refl, sym, ap, _∙_, subst}
 use mathlib.Core.Bool.{Bool}
-use mathlib.Core.List.{List, [], _∷_, _++_, append-assoc, append-nil, map, flatMap, getLastD}
+use mathlib.Core.List.{List, List·Memᴰ, List·Memᴰ·head, List·Memᴰ·tail, [], _∷_, _++_, append-assoc, append-nil, flatMap, getLastD}
 use Prim.Native.Nat.{ℕ, _+_, _-_, _*_, _≤_}
 use native.Mathlib.Nat.{sub-zero, zero-add}
 use native.Mathlib.Numerals.{add-one}
 use native.Mathlib.Omega.{arith}
 use borrow.Rule.Slice.PartMut.{putMid, same-len-mid}
 use lib.ListN.{length, drop, length-append, take-append-drop}
-use Rattle.base.specs.Ranges.{thoseFrom}
 use Rattle.base.proofs.ListLaws.{length-zero}
 use Rattle.blocks.proofs.PartLaws.{length-mid, put-beside}
 use Rattle.families.specs.declared.Family.{Family}
 use Rattle.families.specs.Families.{KInRange, nodeCount}
-use Rattle.lists.specs.Lists.{liveNodes, setLive}
+use Rattle.lists.specs.Lists.{liveNodes, missingNodes, setLive}
 use Rattle.planning.specs.Claims.{CanMakeAll}
-use Rattle.planning.specs.Plan.{Step, isRepaired, stepOf, roundSteps, marksAfter, roundsFrom, planOf, wavesOf, stepBytes, lastRound, nodesLeft}
+use Rattle.planning.specs.Plan.{Step, Reading, once, roundSteps, marksAfter, roundsFrom, planOf, stepBytes, lastRound, nodesLeft}
 use Rattle.planning.specs.Inner.{plannedOf}
-use Rattle.planning.proofs.MakeLaws.{length-marksAfter, can-make-append, round-makes, make-counts, left-few, left-is}
+use Rattle.planning.proofs.MakeLaws.{length-marksAfter, can-make-append, each-step, once-shrinks, round-makes, make-counts, left-few, left-is}
 use Rattle.planning.proofs.PlanLaws.{rounds-end, rounds-more}
 use Rattle.planning.proofs.RoundLaws.{bytes-append, length-bytes, marks-append}
 
@@ -30,17 +29,19 @@ last-append [] x t = refl
 last-append (y ∷ []) x t = refl
 last-append (y ∷ z ∷ s) x t = last-append (z ∷ s) x t
 
--- every step of round r has this round
-last-round : (f : Family) (k : ℕ) (marks : List Bool) (r : ℕ) → 1 ≤ length (roundSteps f k marks r) → lastRound (roundSteps f k marks r) ≡ r
+-- where every step has round r, the last one has
+pub last-same : (r : ℕ) (steps : List Step) → ((step : Step) → List·Memᴰ step steps → step .round ≡ r) → 1 ≤ length steps → lastRound steps ≡ r
 unfolding lastRound getLastD
-last-round f k marks r = go (thoseFrom (isRepaired f k marks) 1 (nodeCount f k))
-  where
-    go : (list : List ℕ) → 1 ≤ length (map (stepOf f k marks r) list) → lastRound (map (stepOf f k marks r) list) ≡ r
-    go [] h = absurd (omega arith)
-    go (j ∷ []) h = refl
-    go (j ∷ i ∷ list) h = go (i ∷ list) (omega arith)
+last-same r [] h l = absurd (omega arith)
+last-same r (x ∷ []) h l = h x (List·Memᴰ·head refl)
+last-same r (x ∷ y ∷ steps) h l = last-same r (y ∷ steps) (λ step m. h step (List·Memᴰ·tail m)) (omega arith)
 
-last-more : (s t : List Step) (r : ℕ) → 1 ≤ length t → lastRound t ≡ r → lastRound (s ++ t) ≡ r
+-- as in a round
+pub last-round : (reading : Reading) (f : Family) (k : ℕ) (marks : List Bool) (r : ℕ) → 1 ≤ length (roundSteps reading f k marks r) → lastRound (roundSteps reading f k marks r) ≡ r
+last-round reading f k marks r h =
+    last-same r (roundSteps reading f k marks r) (λ step m. each-step reading f k marks r marks (missingNodes marks (nodeCount f k)) step m .0) h
+
+pub last-more : (s t : List Step) (r : ℕ) → 1 ≤ length t → lastRound t ≡ r → lastRound (s ++ t) ≡ r
 last-more s [] r h e = absurd (omega arith)
 last-more s (x ∷ t) r h e = last-append s x t ∙ e
 
@@ -53,7 +54,7 @@ pub record Rounds (f : Family) (k : ℕ) (start : List Bool) (before out : List 
   pub room : 4 * nodeCount f k ≤ length before
   pub done : List Step
   pub makes : CanMakeAll f k start done
-  pub split : planOf f k start ≡ done ++ roundsFrom f k (rounds + 1) marks (nodeCount f k - rounds)
+  pub split : planOf f k start ≡ done ++ roundsFrom once f k (rounds + 1) marks (nodeCount f k - rounds)
   pub marked : marks ≡ marksAfter start done
   pub count : steps ≡ length done
   pub last : rounds ≡ lastRound done
@@ -62,7 +63,7 @@ pub record Rounds (f : Family) (k : ℕ) (start : List Bool) (before out : List 
   pub bytes : out ≡ putMid 0 (4 * length done) before (stepBytes done)
 
 pub rounds-none : {f : Family} {k : ℕ} {marks : List Bool} {out : List ℕ} → KInRange f k → length marks ≡ 256 → 4 * nodeCount f k ≤ length out → Rounds f k marks out out marks 0 0
-unfolding wavesOf setLive stepBytes flatMap lastRound getLastD
+unfolding planOf setLive stepBytes flatMap lastRound getLastD
 rounds-none {f} {k} range size h =
     record {
       range = range;
@@ -83,7 +84,7 @@ module _ {f : Family} {k : ℕ} {start : List Bool} {before out : List ℕ} {mar
     (w : Rounds f k start before out marks steps rounds) where
   -- the next round
   abbrev round : List Step
-  round = roundSteps f k marks (rounds + 1)
+  round = roundSteps once f k marks (rounds + 1)
 
   pub marks-size : length marks ≡ 256
   marks-size = ap length (w .marked) ∙ length-marksAfter start (w .done) ∙ w .size
@@ -93,7 +94,7 @@ module _ {f : Family} {k : ℕ} {start : List Bool} {before out : List ℕ} {mar
   all-few =
       let a = make-counts f k (w .range) start (w .size) (w .done) (w .makes) in
       let b : nodesLeft marks (nodeCount f k) ≡ nodesLeft (marksAfter start (w .done)) (nodeCount f k) = ap (λ (m : List Bool). nodesLeft m (nodeCount f k)) (w .marked) in
-      let c = make-counts f k (w .range) marks marks-size round (round-makes f k (w .range) marks marks-size (rounds + 1)) in
+      let c = make-counts f k (w .range) marks marks-size round (round-makes once once-shrinks f k (w .range) marks (rounds + 1)) in
       omega (arith, a, b, c, w .count, left-few start (nodeCount f k))
 
   pub round-fits : 4 * steps + 4 * length round ≤ length out
@@ -112,11 +113,11 @@ module _ {f : Family} {k : ℕ} {start : List Bool} {before out : List ℕ} {mar
         size = w .size;
         room = w .room;
         done = more;
-        makes = can-make-append f k start (w .done) round (w .makes) (subst (λ (m : List Bool). CanMakeAll f k m round) (w .marked) (round-makes f k (w .range) marks marks-size (rounds + 1)));
-        split = w .split ∙ rw (rounds-more f k marks (rounds + 1) (nodeCount f k - rounds) (omega (arith, w .fewer)), left, add-one (rounds + 1), append-assoc);
+        makes = can-make-append f k start (w .done) round (w .makes) (subst (λ (m : List Bool). CanMakeAll f k m round) (w .marked) (round-makes once once-shrinks f k (w .range) marks (rounds + 1)));
+        split = w .split ∙ rw (rounds-more once once-shrinks f k marks (rounds + 1) (nodeCount f k - rounds) (omega (arith, w .fewer)), left, add-one (rounds + 1), append-assoc);
         marked = rw (marks-append start (w .done) round, ← w .marked);
         count = omega (arith, w .count);
-        last = sym (last-more (w .done) round (rounds + 1) h (last-round f k marks (rounds + 1) h));
+        last = sym (last-more (w .done) round (rounds + 1) h (last-round once f k marks (rounds + 1) h));
         fewer = omega (arith, w .fewer);
         kept = same-len-mid (4 * steps) (4 * length round) out (stepBytes round) (length-bytes round ∙ sym (length-mid out (4 * steps) (4 * length round) round-fits)) ∙ w .kept;
         bytes =
@@ -131,7 +132,7 @@ module _ {f : Family} {k : ℕ} {start : List Bool} {before out : List ℕ} {mar
     none = length-zero round e
 
     plan-done : planOf f k start ≡ w .done
-    plan-done = w .split ∙ rw (rounds-end f k marks (rounds + 1) (nodeCount f k - rounds) none, append-nil)
+    plan-done = w .split ∙ rw (rounds-end once once-shrinks f k marks (rounds + 1) (nodeCount f k - rounds) none, append-nil)
 
     pub rounds-answer : record { steps = steps; rounds = rounds; left = nodeCount f k - length (liveNodes marks (nodeCount f k)); live = marks } ≡ plannedOf f k start
     rounds-answer = rw (plan-done, ← w .marked, w .count, w .last, left-is marks (nodeCount f k))

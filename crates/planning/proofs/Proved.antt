@@ -12,30 +12,47 @@ use Rattle.lists.specs.Lists.{isLive}
 use Rattle.counts.proofs.Laws.{sum-all}
 use Rattle.pairing.proofs.PairLaws.{smaller-some}
 use Rattle.pairing.proofs.NoneLaws.{count-some, some-count}
-use Rattle.planning.specs.Claims.{PlanClaim, FirstRoundClaim, ReadsClaim, LiveReadsClaim}
-use Rattle.planning.specs.Plan.{Step, sourcesOf, timesRead, planOf, wavesOf}
-use Rattle.planning.proofs.MakeLaws.{make-counts, left-few, pair-repairs}
+use Rattle.planning.specs.Claims.{PlanClaim, PlanRoundsClaim, FirstWaveClaim, ReadsClaim, LiveReadsClaim}
+use Rattle.planning.specs.Plan.{Step, once, sourcesOf, timesRead, marksAfter, planOf, wavesOf, beforeRound}
+use Rattle.planning.proofs.MakeLaws.{once-shrinks, make-counts, left-few, pair-repairs}
 use Rattle.planning.proofs.RepairedLaws.{repaired-pair}
 use Rattle.planning.proofs.WaveLaws.{afterWaves, Turn, turn-step, step-turn, first-step, waves-only, waves-get}
 use Rattle.planning.proofs.SourceLaws.{length-sources, sources-inside, reads-are, times-few}
+use Rattle.planning.proofs.TurnLaws.{round-claims}
+use Rattle.planning.proofs.RoundsLaws.{from-round, round-is, rounds-some, rounds-few, rounds-most}
+use Rattle.planning.proofs.AgainstWaves.{same-marks, wave-first, waves-few}
 use Rattle.planning.proofs.PlanLaws.{rounds-end, rounds-make, rounds-quiet, rounds-enough}
 
 pub plan-claim : PlanClaim
-unfolding wavesOf
+unfolding planOf
 plan-claim f k range marks size =
     let n : ℕ = nodeCount f k in
-    let makes = rounds-make f k range n marks size 1 in
+    let makes = rounds-make once once-shrinks f k range n marks size 1 in
     record {
       makes = makes;
-      ends = rounds-quiet f k range n marks size 1 (left-few marks n);
-      ended = rounds-end f k marks;
-      enough = λ m h. rounds-enough f k range n m marks size 1 (left-few marks n) h;
+      ends = rounds-quiet once once-shrinks f k range n marks size 1 (left-few marks n);
+      ended = rounds-end once once-shrinks f k marks;
+      enough = λ m h. rounds-enough once once-shrinks f k range n m marks size 1 (left-few marks n) h;
       counts = make-counts f k range marks size (planOf f k marks) makes;
     }
 
-pub first-round-claim : FirstRoundClaim
+pub plan-rounds-claim : PlanRoundsClaim
+unfolding planOf
+plan-rounds-claim f k range marks size =
+    let n : ℕ = nodeCount f k in
+    record {
+      each = λ r l. rw (round-is once once-shrinks f k range n 1 marks size (left-few marks n) r l) (round-claims f k (marksAfter marks (beforeRound r (planOf f k marks))) r range);
+      some = λ r l h. rounds-some once once-shrinks f k n 1 marks (omega arith) r l h;
+      few = omega (arith, rounds-few once once-shrinks f k n 0 marks);
+      within = λ step h. (from-round once once-shrinks f k n 1 marks step h, rounds-most once once-shrinks f k n 1 marks step h);
+      same-left = same-marks f k range marks size;
+      no-sooner = λ j r w p q. wave-first f k range marks size j r w p q;
+      waves = waves-few f k range marks size;
+    }
+
+pub first-wave-claim : FirstWaveClaim
 unfolding wavesOf afterWaves
-first-round-claim f k range marks size =
+first-wave-claim f k range marks size =
     record {
       repaired = λ j. (
         (λ h.
@@ -45,7 +62,7 @@ first-round-claim f k range marks size =
             let p = waves-only f k range marks 0 j (turn .missing) (turn .live) in
             (turn .node, turn .missing, count-some f k marks j (smaller-some f k marks j range (turn .node) (p .one) (p .other) (p .one-live) (p .other-live) (p .related)))),
         (λ h.
-            let p = repaired-pair f k range marks j (pair-repairs f k marks j (h .1) (some-count f k marks j (h .2))) in
+            let p = repaired-pair f k range marks j (pair-repairs f k marks marks j (h .1) (some-count f k marks j (h .2))) in
             turn-step f k (nodeCount f k) 1 marks 0 j (omega (arith, h .0 .first, h .0 .last)) (record { node = h .0; missing = h .1; live = waves-get f k range marks size 0 j (h .0) p })),
       );
       smaller = λ step h e. ap (λ (step : Step). step .smaller) (first-step f k range (nodeCount f k) 1 marks size step h e);

@@ -1,36 +1,40 @@
 -- The steps of a round, one next repair after the other, and how far a round has been put into a list of bytes and marked.
 -- Assumes nothing.
 use mathlib.Core.Path.{_≡_, refl, sym, ap, _∙_}
-use mathlib.Core.Bool.{Bool, true, false, not, false≢true}
+use mathlib.Core.Bool.{Bool, true, false, not, and-false, false≢true}
 use mathlib.Core.Logic.{_⊎_, inl, inr}
-use mathlib.Core.List.{List, [], _∷_, _++_, append-assoc, append-nil, map, map-append, flatMap}
-use Prim.Native.Nat.{ℕ, suc, _+_, _-_, _*_, _≤_, _<_}
+use mathlib.Core.List.{List, [], _∷_, _++_, append-assoc, append-nil, map-append, flatMap}
+use Prim.Native.Nat.{ℕ, zero, suc, _+_, _-_, _*_, _≤_, _<_}
 use native.Mathlib.Nat.{sub-zero, eq-zero-or-pos}
 use native.Mathlib.Omega.{arith}
-use borrow.Author.Tests.{lt-ltb, ltb-true, ne-eqb, not-false}
+use borrow.Author.Tests.{lt-ltb, ne-eqb}
 use borrow.Rule.Slice.PartMut.{putMid, same-len-mid}
 use lib.Dec.{ltb}
-use lib.ListN.{length, set, length-append, length-replicate, getD-replicate, take-append-drop}
+use lib.ListN.{length, set, take, drop, length-append, length-replicate, getD-replicate, take-append-drop}
+use lib.Seq.{take-at}
 use Rattle.base.specs.Ranges.{firstFrom, thoseFrom}
+use Rattle.base.proofs.First.{first-same, found}
 use Rattle.base.proofs.ListLaws.{length-zero, flatMap-append}
-use Rattle.base.proofs.RangeLaws.{those-none, those-first, those-has, those-are, none-those, others-count}
-use Rattle.base.proofs.Tests.{and-right, same-answer}
+use Rattle.base.proofs.RangeLaws.{those-has, those-are, others-count}
+use Rattle.base.proofs.Tests.{and-both}
 use Rattle.blocks.proofs.PartLaws.{length-mid, put-beside}
 use Rattle.families.specs.declared.Family.{Family}
 use Rattle.families.specs.Families.{KInRange, IsNode, nodeCount}
 use Rattle.families.proofs.Laws.{few}
-use Rattle.base.proofs.First.{first-none, first-same, found}
 use Rattle.lists.specs.Lists.{missingNodes, isLive, setLive, liveNodes}
+use Rattle.lists.specs.Inner.{without}
 use Rattle.lists.proofs.MarkLaws.{live-append}
+use Rattle.lists.proofs.WithoutLaws.{unset-live, without-live}
 use Rattle.counts.specs.Counts.{noCounts, countOf}
 use Rattle.pairing.specs.declared.Found.{Found}
-use Rattle.pairing.specs.Pairs.{smallerNode, pairCount, pairsOf}
-use Rattle.pairing.specs.Inner.{countEach, nextCounted, foundAt}
-use Rattle.pairing.proofs.PairLaws.{pair-of, pairs-are}
+use Rattle.pairing.specs.Pairs.{largerNode, smallerNode, pairCount}
+use Rattle.pairing.specs.Inner.{countEach, nextFound, foundAt}
+use Rattle.pairing.proofs.PairLaws.{pair-of, pairs-are, smaller-some}
 use Rattle.pairing.proofs.EachLaws.{each-listed, each-other}
-use Rattle.pairing.proofs.NoneLaws.{count-some, count-none}
-use Rattle.planning.specs.Plan.{Step, isRepaired, stepOf, roundSteps, repairedNodes, marksAfter, stepBytes}
-use Rattle.planning.proofs.MakeLaws.{live-kept, pair-repairs, repaired-smaller}
+use Rattle.pairing.proofs.NoneLaws.{count-some}
+use Rattle.pairing.proofs.SearchLaws.{isFound}
+use Rattle.planning.specs.Plan.{Step, stepOf, Reading, once, stepsFor, roundSteps, repairedNodes, marksAfter, stepBytes}
+use Rattle.planning.proofs.MakeLaws.{isRepaired, repaired-smaller, live-kept, pairless-kept, pair-repairs, turn-waits, turn-repairs, Within}
 
 -- ---- lists of steps
 
@@ -48,11 +52,11 @@ marks-append marks s t = ap (setLive marks) (map-append (λ (step : Step). step 
 
 -- ---- a round where every node is live
 
-pub all-live : (f : Family) (k : ℕ) (marks : List Bool) (n : ℕ) → n ≤ length (liveNodes marks n) → thoseFrom (isRepaired f k marks) 1 n ≡ []
-all-live f k marks n h =
-    let none = length-zero (thoseFrom (λ i. not (isLive marks i)) 1 n) (omega (arith, others-count (isLive marks) 1 n)) in
-    those-none (isRepaired f k marks) 1 n (omega arith)
-    (first-none (isRepaired f k marks) 1 n (λ i l g. live-kept f k marks i (not-false (isLive marks i) (none-those (λ i. not (isLive marks i)) 1 n (omega arith) none i l g))))
+pub all-live : (reading : Reading) (f : Family) (k : ℕ) (marks : List Bool) (r : ℕ) → nodeCount f k ≤ length (liveNodes marks (nodeCount f k)) → roundSteps reading f k marks r ≡ []
+unfolding stepsFor
+all-live reading f k marks r h =
+    let none = length-zero (missingNodes marks (nodeCount f k)) (omega (arith, others-count (isLive marks) 1 (nodeCount f k))) in
+    rw none
 
 -- ---- which nodes the search finds
 
@@ -60,10 +64,17 @@ all-live f k marks n h =
 abbrev pub missingCounts : Family → ℕ → List Bool → List ℕ
 missingCounts f k marks = countEach f k marks noCounts (missingNodes marks (nodeCount f k))
 
-module _ (f : Family) (k : ℕ) (range : KInRange f k) (marks : List Bool) where
-  -- a node that is counted with a pair or more is one that the round repairs
-  counted-repaired : (i : ℕ) → IsNode f k i → ltb 0 (countOf (missingCounts f k marks) i) ≡ isRepaired f k marks i
-  counted-repaired i n = go (isLive marks i) refl
+module _ (f : Family) (k : ℕ) (range : KInRange f k) (marks free : List Bool) (within : Within free marks) where
+  -- a pair that may be read is live, so that its node is counted where it is missing
+  has-count : (i : ℕ) → IsNode f k i → 1 ≤ smallerNode f k free i → 1 ≤ pairCount f k marks i
+  has-count i n h =
+      let p = pair-of f k range free i h in
+      count-some f k marks i
+      (smaller-some f k marks i range n _ _ (record { node = p .smaller; live = within _ (p .smaller-live) }) (record { node = p .larger; live = within _ (p .larger-live) }) (p .related))
+
+  -- a node that is counted, and has a pair that may be read, is one that the round repairs
+  found-is : (i : ℕ) → IsNode f k i → isFound f k free (missingCounts f k marks) i ≡ isRepaired f k marks free i
+  found-is i n = go (isLive marks i) refl (eq-zero-or-pos (smallerNode f k free i))
     where
       few256 : i < 256
       few256 = omega (arith, n .last, few f k range)
@@ -79,130 +90,200 @@ module _ (f : Family) (k : ℕ) (range : KInRange f k) (marks : List Bool) where
           (λ m. false≢true (sym (ap not v) ∙ those-are (λ j. not (isLive marks j)) 1 (nodeCount f k) i m .passes))
           ∙ getD-replicate 256 i 0 0 few256
 
-      go : (b : Bool) → isLive marks i ≡ b → ltb 0 (countOf (missingCounts f k marks) i) ≡ isRepaired f k marks i
-      go true v = rw (none v) (sym (live-kept f k marks i v))
-      go false v =
-          same-answer (ltb 0 (countOf (missingCounts f k marks) i)) (isRepaired f k marks i)
-          (λ t. pair-repairs f k marks i v (some (ltb-true 0 (countOf (missingCounts f k marks) i) t)))
-          (λ t. lt-ltb 0 (countOf (missingCounts f k marks) i) (omega (arith, own v, count-some f k marks i (repaired-smaller f k marks i t))))
-        where
-          some : 0 < countOf (missingCounts f k marks) i → 1 ≤ smallerNode f k marks i
-          some h = pick (eq-zero-or-pos (smallerNode f k marks i))
-            where
-              pick : (smallerNode f k marks i ≡ 0) ⊎ (0 < smallerNode f k marks i) → 1 ≤ smallerNode f k marks i
-              pick (inl z) = absurd (omega (arith, own v, count-none f k marks i z))
-              pick (inr g) = g
+      go : (b : Bool) → isLive marks i ≡ b → (smallerNode f k free i ≡ 0) ⊎ (0 < smallerNode f k free i) → isFound f k free (missingCounts f k marks) i ≡ isRepaired f k marks free i
+      go true v s = rw (none v) (sym (live-kept f k marks free i v))
+      go false v (inl z) = rw z (and-false (ltb 0 (countOf (missingCounts f k marks) i)) ∙ sym (pairless-kept f k marks free i z))
+      go false v (inr h) =
+          and-both (ltb 0 (countOf (missingCounts f k marks) i)) (ltb 0 (smallerNode f k free i)) (lt-ltb 0 (countOf (missingCounts f k marks) i) (omega (arith, own v, has-count i n h))) (lt-ltb 0 (smallerNode f k free i) h)
+          ∙ sym (pair-repairs f k marks free i v h)
 
   -- so that the search finds the nodes of the round
-  pub found-repaired : (after : ℕ) → after ≤ nodeCount f k → nextCounted (missingCounts f k marks) (nodeCount f k) after ≡ firstFrom (isRepaired f k marks) (suc after) (nodeCount f k - after)
+  found-repaired : (after : ℕ) → after ≤ nodeCount f k → nextFound f k free (missingCounts f k marks) after ≡ firstFrom (isRepaired f k marks free) (suc after) (nodeCount f k - after)
   found-repaired after h =
-      first-same (λ j. ltb 0 (countOf (missingCounts f k marks) j)) (isRepaired f k marks) (suc after) (nodeCount f k - after)
-      (λ i l u. counted-repaired i (record { first = omega arith; last = omega arith }))
+      first-same (isFound f k free (missingCounts f k marks)) (isRepaired f k marks free) (suc after) (nodeCount f k - after)
+      (λ i l u. found-is i (record { first = omega arith; last = omega arith }))
+
+  pub found-next : {counts : List ℕ} {x : Found} (after : ℕ) → after ≤ nodeCount f k → counts ≡ missingCounts f k marks → x ≡ foundAt f k free counts (nextFound f k free counts after)
+      → x ≡ foundAt f k free (missingCounts f k marks) (firstFrom (isRepaired f k marks free) (suc after) (nodeCount f k - after))
+  found-next after h e g = g ∙ rw (e, found-repaired after h)
 
 -- ---- the next repair
 
-module _ (f : Family) (k : ℕ) (marks : List Bool) (r : ℕ) where
-  -- the steps of the round above a node
+module _ (reading : Reading) (f : Family) (k : ℕ) (marks : List Bool) (r : ℕ) (free : List Bool) where
+  abbrev missing : ℕ → ℕ → List ℕ
+  missing j m = thoseFrom (λ i. not (isLive marks i)) j m
+
+  abbrev first : ℕ → ℕ → ℕ
+  first j m = firstFrom (isRepaired f k marks free) j m
+
+  -- where no node is repaired there is no step, and else the first is that of the first node
+  pub record Rest (j m : ℕ) : Type 0 where
+    pub none : first j m ≡ 0 → stepsFor reading f k marks r free (missing j m) ≡ []
+    pub some : 1 ≤ first j m → stepsFor reading f k marks r free (missing j m)
+        ≡ stepOf f k marks free r (first j m) ∷ stepsFor reading f k marks r (reading free (stepOf f k marks free r (first j m))) (missing (suc (first j m)) (j + m - suc (first j m)))
+
+  pub rest-is : (j m : ℕ) → 1 ≤ j → Rest j m
+  unfolding firstFrom thoseFrom stepsFor
+  rest-is j zero l = record { none = λ e. refl; some = λ h. absurd (omega arith) }
+  rest-is j (suc m) l = go (isLive marks j) refl (eq-zero-or-pos (smallerNode f k free j)) (rest-is (suc j) m (omega arith))
+    where
+      shift : suc j + m ≡ j + suc m
+      shift = omega arith
+
+      go : (b : Bool) → isLive marks j ≡ b → (smallerNode f k free j ≡ 0) ⊎ (0 < smallerNode f k free j) → Rest (suc j) m → Rest j (suc m)
+      go true v s w =
+          let k1 = live-kept f k marks free j v in
+          record { none = λ e. rw v (w .none (rw k1 at e)); some = λ h. rw (v, k1, ← shift) (w .some (rw k1 at h)) }
+      go false v (inl z) w =
+          let k1 = pairless-kept f k marks free j z in
+          let t = turn-waits f k marks free j reading r (missing (suc j) m) z in
+          record { none = λ e. rw (v, t) (w .none (rw k1 at e)); some = λ h. rw (v, k1, t, ← shift) (w .some (rw k1 at h)) }
+      go false v (inr g) w =
+          let k1 = pair-repairs f k marks free j v g in
+          let t = turn-repairs f k marks free j reading r (missing (suc j) m) g in
+          let here : j + suc m - suc j ≡ m = omega arith in
+          record { none = λ e. absurd (omega (arith, rw k1 at e)); some = λ h. rw (v, k1, here) t }
+
+module _ (f : Family) (k : ℕ) (marks : List Bool) (r : ℕ) (free : List Bool) where
+  -- the steps of the round above a node, where these nodes may be read
   abbrev pub stepsAbove : ℕ → List Step
-  stepsAbove node = map (stepOf f k marks r) (thoseFrom (isRepaired f k marks) (suc node) (nodeCount f k - node))
+  stepsAbove node = stepsFor once f k marks r free (thoseFrom (λ i. not (isLive marks i)) (suc node) (nodeCount f k - node))
 
   -- a repair as a step of the round
   abbrev pub asStep : Found → Step
   asStep x = record { round = r; node = x .node; smaller = x .pairs .smaller; larger = x .pairs .larger }
 
-  -- x is the first repair of the round above a node
-  pub record Next (node : ℕ) (x : Found) : Type 0 where
-    pub above : node < x .node
-    pub last : x .node ≤ nodeCount f k
-    pub smaller-last : x .pairs .smaller ≤ nodeCount f k
-    pub larger-last : x .pairs .larger ≤ nodeCount f k
-    pub steps : stepsAbove node ≡ asStep x ∷ stepsAbove (x .node)
+-- x is the first repair of the round above a node
+pub record Next (f : Family) (k : ℕ) (marks : List Bool) (r : ℕ) (free : List Bool) (node : ℕ) (x : Found) : Type 0 where
+  pub above : node < x .node
+  pub last : x .node ≤ nodeCount f k
+  pub smaller-last : x .pairs .smaller ≤ nodeCount f k
+  pub larger-last : x .pairs .larger ≤ nodeCount f k
+  pub steps : stepsAbove f k marks r free node ≡ asStep f k marks r free x ∷ stepsAbove f k marks r (set (set free (x .pairs .smaller) false) (x .pairs .larger) false) (x .node)
 
-  module _ (node : ℕ) (x : Found) (e : x ≡ foundAt f k marks (firstFrom (isRepaired f k marks) (suc node) (nodeCount f k - node))) where
-    abbrev j : ℕ
-    j = firstFrom (isRepaired f k marks) (suc node) (nodeCount f k - node)
+module _ (f : Family) (k : ℕ) (marks : List Bool) (r : ℕ) (free : List Bool) (counts : List ℕ) (node : ℕ) (x : Found)
+    (e : x ≡ foundAt f k free counts (firstFrom (isRepaired f k marks free) (suc node) (nodeCount f k - node))) where
+  abbrev j : ℕ
+  j = firstFrom (isRepaired f k marks free) (suc node) (nodeCount f k - node)
 
-    pub next-none : x .node ≡ 0 → stepsAbove node ≡ []
-    unfolding foundAt
-    next-none z = rw (those-none (isRepaired f k marks) (suc node) (nodeCount f k - node) (omega arith) (go (eq-zero-or-pos j)))
-      where
-        go : (j ≡ 0) ⊎ (0 < j) → j ≡ 0
-        go (inl g) = g
-        go (inr g) =
-            let is : x .node ≡ j = ap (λ (y : Found). y .node) e ∙ simp (ne-eqb j 0 (λ y. omega arith)) in
-            sym is ∙ z
+  rest : Rest once f k marks r free (suc node) (nodeCount f k - node)
+  rest = rest-is once f k marks r free (suc node) (nodeCount f k - node) (omega arith)
 
-    pub next-some : KInRange f k → node ≤ nodeCount f k → (x .node ≡ 0 → ⊥) → Next node x
-    unfolding foundAt isRepaired
-    next-some range h ne = go (eq-zero-or-pos j)
-      where
-        go : (j ≡ 0) ⊎ (0 < j) → Next node x
-        go (inl g) = absurd (ne (ap (λ (y : Found). y .node) e ∙ rw g))
-        go (inr g) =
-            let is : x ≡ record { node = j; pairs = pairsOf f k marks j } = e ∙ simp (ne-eqb j 0 (λ y. omega arith)) in
-            let w = found (isRepaired f k marks) (suc node) (nodeCount f k - node) g in
-            let h : 1 ≤ smallerNode f k marks j = ltb-true 0 (smallerNode f k marks j) (and-right (not (isLive marks j)) (ltb 0 (smallerNode f k marks j)) (w .passes)) in
-            let p = pair-of f k range marks j h in
-            let are = pairs-are f k range marks j h in
-            let t : suc node + (nodeCount f k - node) - suc j ≡ nodeCount f k - j = omega (arith, w .from, w .below) in
-            rw is
-            (record {
-              above = w .from;
-              last = omega (arith, w .from, w .below);
-              smaller-last = rw are (p .smaller .last);
-              larger-last = rw are (p .larger .last);
-              steps = rw (those-first (isRepaired f k marks) (suc node) (nodeCount f k - node) j refl g, t);
-            })
+  pub next-none : x .node ≡ 0 → stepsAbove f k marks r free node ≡ []
+  unfolding foundAt
+  next-none z = rest .none (go (eq-zero-or-pos j))
+    where
+      go : (j ≡ 0) ⊎ (0 < j) → j ≡ 0
+      go (inl g) = g
+      go (inr g) =
+          let is : x .node ≡ j = ap (λ (y : Found). y .node) e ∙ simp (ne-eqb j 0 (λ y. omega arith)) in
+          sym is ∙ z
+
+  pub next-some : KInRange f k → node ≤ nodeCount f k → (x .node ≡ 0 → ⊥) → Next f k marks r free node x
+  unfolding foundAt once
+  next-some range h ne = go (eq-zero-or-pos j)
+    where
+      go : (j ≡ 0) ⊎ (0 < j) → Next f k marks r free node x
+      go (inl g) = absurd (ne (ap (λ (y : Found). y .node) e ∙ rw g))
+      go (inr g) =
+          let a = smallerNode f k free j in
+          let is : x ≡ record { node = j; pairs = record { smaller = a; larger = largerNode f k free j a; count = countOf counts j } } = e ∙ simp (ne-eqb j 0 (λ y. omega arith)) in
+          let w = found (isRepaired f k marks free) (suc node) (nodeCount f k - node) g in
+          let s = repaired-smaller f k marks free j (w .passes) in
+          let p = pair-of f k range free j s in
+          let are = pairs-are f k range free j marks s in
+          let t : suc node + (nodeCount f k - node) - suc j ≡ nodeCount f k - j = omega (arith, w .from, w .below) in
+          rw is
+          (record {
+            above = w .from;
+            last = omega (arith, w .from, w .below);
+            smaller-last = p .smaller .last;
+            larger-last = p .larger .last;
+            steps = rw (are, t) at (rest .some g);
+          })
 
 -- ---- a round, put into a list of bytes and marked
 
--- the steps as far as `node` are in their places, and their nodes marked
-pub record InRound (f : Family) (k : ℕ) (marks : List Bool) (r : ℕ) (start : List ℕ) (from : ℕ) (before : List Bool) (out : List ℕ) (next : List Bool) (steps node : ℕ) : Type 0 where
+-- the steps as far as `node` are in their places, and their nodes marked; the list has the nodes that may still be read
+pub record InRound (f : Family) (k : ℕ) (marks : List Bool) (r : ℕ) (start : List ℕ) (from : ℕ) (before : List Bool) (out : List ℕ) (next : List Bool) (list : List ℕ) (count : ℕ)
+    (free : List Bool) (steps node : ℕ) : Type 0 where
   pub done : List Step
-  pub split : roundSteps f k marks r ≡ done ++ stepsAbove f k marks r node
+  pub split : roundSteps once f k marks r ≡ done ++ stepsAbove f k marks r free node
   pub within : node ≤ nodeCount f k
-  pub count : steps ≡ length done
-  pub room : from + 4 * length (roundSteps f k marks r) ≤ length start
+  pub count-is : steps ≡ length done
+  pub room : from + 4 * length (roundSteps once f k marks r) ≤ length start
   pub kept : length out ≡ length start
   pub bytes : out ≡ putMid from (4 * length done) start (stepBytes done)
   pub marked : next ≡ marksAfter before done
+  pub live : Within free marks
+  pub fits : count ≤ length list
+  pub nodes : take count list ≡ liveNodes free (nodeCount f k)
 
-pub round-none : {f : Family} {k : ℕ} {marks : List Bool} {r : ℕ} {out : List ℕ} {from : ℕ} {next : List Bool}
-    → from + 4 * length (roundSteps f k marks r) ≤ length out → InRound f k marks r out from next out next 0 0
+pub round-none : {f : Family} {k : ℕ} {marks : List Bool} {r : ℕ} {out : List ℕ} {from : ℕ} {next : List Bool} {list : List ℕ} {count : ℕ}
+    → from + 4 * length (roundSteps once f k marks r) ≤ length out → count ≤ length list → take count list ≡ liveNodes marks (nodeCount f k)
+    → InRound f k marks r out from next out next list count marks 0 0
 unfolding stepBytes flatMap setLive
-round-none {f} {k} {out = out} {from} h =
-    record { done = []; split = rw (sub-zero (nodeCount f k)); within = omega arith; count = refl; room = h; kept = refl; bytes = sym (take-append-drop from out); marked = refl }
+round-none {f} {k} {out = out} {from} h fits nodes =
+    record {
+      done = [];
+      split = rw (sub-zero (nodeCount f k));
+      within = omega arith;
+      count-is = refl;
+      room = h;
+      kept = refl;
+      bytes = sym (take-append-drop from out);
+      marked = refl;
+      live = λ i v. v;
+      fits = fits;
+      nodes = nodes;
+    }
 
-module _ {f : Family} {k : ℕ} {marks : List Bool} {r : ℕ} {start : List ℕ} {from : ℕ} {before : List Bool} {out : List ℕ} {next : List Bool} {steps node : ℕ}
-    (w : InRound f k marks r start from before out next steps node) where
+module _ {f : Family} {k : ℕ} {marks : List Bool} {r : ℕ} {start : List ℕ} {from : ℕ} {before : List Bool} {out : List ℕ} {next : List Bool} {list : List ℕ} {count : ℕ} {free : List Bool}
+    {steps node : ℕ} (w : InRound f k marks r start from before out next list count free steps node) where
   -- one step more
-  module _ (x : Found) (n : Next f k marks r node x) where
-    total : steps + 1 ≤ length (roundSteps f k marks r)
-    total = omega (arith, w .count, ap length (w .split), length-append (w .done) (stepsAbove f k marks r node), ap length (n .steps))
+  module _ (x : Found) (n : Next f k marks r free node x) where
+    abbrev rest-free : List Bool
+    rest-free = set (set free (x .pairs .smaller) false) (x .pairs .larger) false
 
-    pub round-some : 1 ≤ length (roundSteps f k marks r)
+    total : steps + 1 ≤ length (roundSteps once f k marks r)
+    total = omega (arith, w .count-is, ap length (w .split), length-append (w .done) (stepsAbove f k marks r free node), ap length (n .steps))
+
+    pub round-some : 1 ≤ length (roundSteps once f k marks r)
     round-some = omega (arith, total)
 
     pub round-room : from + 4 * steps + 4 ≤ length out
     round-room = omega (arith, w .room, w .kept, total)
 
-    pub round-more : InRound f k marks r start from before (putMid (from + 4 * steps) 4 out (r ∷ x .node ∷ x .pairs .smaller ∷ x .pairs .larger ∷ [])) (set next (x .node) true) (steps + 1) (x .node)
-    unfolding stepBytes flatMap setLive
-    round-more =
-        let one = asStep f k marks r x ∷ [] in
-        let more = w .done ++ one in
-        let l : length more ≡ length (w .done) + 1 = length-append (w .done) one in
-        let fours : 4 * (length (w .done) + 1) ≡ 4 * length (w .done) + 4 = omega arith in
-        record {
-          done = more;
-          split = w .split ∙ rw (n .steps, append-assoc (w .done) one (stepsAbove f k marks r (x .node)));
-          within = n .last;
-          count = omega (arith, w .count);
-          room = w .room;
-          kept = same-len-mid (from + 4 * steps) 4 out (r ∷ x .node ∷ x .pairs .smaller ∷ x .pairs .larger ∷ []) (sym (length-mid out (from + 4 * steps) 4 round-room)) ∙ w .kept;
-          bytes = rw (w .count, w .bytes, l, bytes-append (w .done) one, fours) (put-beside start (stepBytes (w .done)) (stepBytes one) from (4 * length (w .done)) 4 (omega (arith, round-room, w .kept)) (length-bytes (w .done)));
-          marked = rw (w .marked, marks-append before (w .done) one);
-        }
+    -- the list without the pair has the nodes that may be read next
+    module _ (more : List ℕ) (left : ℕ) where
+      abbrev kept-nodes : List ℕ
+      kept-nodes = without (x .pairs .smaller) (x .pairs .larger) (take count list)
 
-  pub round-done : stepsAbove f k marks r node ≡ [] → roundSteps f k marks r ≡ w .done
+      pub round-more : left ≡ length kept-nodes → more ≡ (kept-nodes ++ drop (length kept-nodes) (take count list)) ++ drop count list
+          → InRound f k marks r start from before (putMid (from + 4 * steps) 4 out (r ∷ x .node ∷ x .pairs .smaller ∷ x .pairs .larger ∷ [])) (set next (x .node) true) more left rest-free (steps + 1) (x .node)
+      unfolding stepBytes flatMap setLive
+      round-more el em =
+          let one = asStep f k marks r free x ∷ [] in
+          let after = w .done ++ one in
+          let l : length after ≡ length (w .done) + 1 = length-append (w .done) one in
+          let fours : 4 * (length (w .done) + 1) ≡ 4 * length (w .done) + 4 = omega arith in
+          let tail = drop (length kept-nodes) (take count list) ++ drop count list in
+          let em2 : more ≡ kept-nodes ++ tail = em ∙ append-assoc kept-nodes (drop (length kept-nodes) (take count list)) (drop count list) in
+          record {
+            done = after;
+            split = w .split ∙ rw (n .steps, append-assoc (w .done) one (stepsAbove f k marks r rest-free (x .node)));
+            within = n .last;
+            count-is = omega (arith, w .count-is);
+            room = w .room;
+            kept = same-len-mid (from + 4 * steps) 4 out (r ∷ x .node ∷ x .pairs .smaller ∷ x .pairs .larger ∷ []) (sym (length-mid out (from + 4 * steps) 4 round-room)) ∙ w .kept;
+            bytes = rw (w .count-is, w .bytes, l, bytes-append (w .done) one, fours) (put-beside start (stepBytes (w .done)) (stepBytes one) from (4 * length (w .done)) 4 (omega (arith, round-room, w .kept)) (length-bytes (w .done)));
+            marked = rw (w .marked, marks-append before (w .done) one);
+            live = λ i v. w .live i (unset-live free (x .pairs .smaller) i (unset-live (set free (x .pairs .smaller) false) (x .pairs .larger) i v .1) .1);
+            fits = omega (arith, el, ap length em2, length-append kept-nodes tail);
+            nodes =
+                rw em2 (take-at kept-nodes tail left (sym el)) ∙ ap (without (x .pairs .smaller) (x .pairs .larger)) (w .nodes)
+                ∙ without-live (x .pairs .smaller) (x .pairs .larger) free 1 (nodeCount f k);
+          }
+
+  pub round-done : stepsAbove f k marks r free node ≡ [] → roundSteps once f k marks r ≡ w .done
   round-done e = w .split ∙ rw (e, append-nil)

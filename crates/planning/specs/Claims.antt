@@ -7,10 +7,11 @@ use Prim.Native.Nat.{ℕ, _+_, _*_, _≤_}
 use lib.ListN.{length, set}
 use Rattle.families.specs.declared.Family.{Family}
 use Rattle.families.specs.Families.{KInRange, IsNode, nodeCount, areRelated}
-use Rattle.lists.specs.Lists.{isLive}
+use Rattle.lists.specs.Lists.{isLive, rises}
 use Rattle.counts.specs.Counts.{countOf, countAll, sumOf}
 use Rattle.pairing.specs.Pairs.{pairCount, pairsOf, NoPairLeft}
-use Rattle.planning.specs.Plan.{Step, RepairedIn, roundSteps, sourcesOf, timesRead, marksAfter, roundsFrom, planOf, nodesLeft}
+use Rattle.pairing.specs.Claims.{IsPair}
+use Rattle.planning.specs.Plan.{Step, RepairedIn, once, roundSteps, freeAfter, repairedNodes, sourcesOf, timesRead, marksAfter, roundsFrom, planOf, wavesOf, inRound, beforeRound, beforeNode, lastRound, nodesLeft}
 
 -- a step that can be made: it names a missing node and two live nodes related to it
 pub record CanMake (f : Family) (k : ℕ) (marks : List Bool) (step : Step) : Type 0 where
@@ -34,27 +35,73 @@ pub record PlanClaims (f : Family) (k : ℕ) (marks : List Bool) : Type 0 where
   -- after it no missing node has a related pair with both nodes live
   pub ends : NoPairLeft f k (isLive (marksAfter marks (planOf f k marks)))
   -- a round without repairs ends the plan: no round from it on has a step
-  pub ended : (r m : ℕ) → roundSteps f k marks r ≡ [] → roundsFrom f k r marks m ≡ []
+  pub ended : (r m : ℕ) → roundSteps once f k marks r ≡ [] → roundsFrom once f k r marks m ≡ []
   -- n rounds are enough: more of them add nothing
-  pub enough : (m : ℕ) → nodeCount f k ≤ m → roundsFrom f k 1 marks m ≡ planOf f k marks
+  pub enough : (m : ℕ) → nodeCount f k ≤ m → roundsFrom once f k 1 marks m ≡ planOf f k marks
   -- each step repairs one node
   pub counts : length (planOf f k marks) + nodesLeft (marksAfter marks (planOf f k marks)) (nodeCount f k) ≡ nodesLeft marks (nodeCount f k)
 
 abbrev pub PlanClaim : Type 0
 PlanClaim = (f : Family) (k : ℕ) → KInRange f k → (marks : List Bool) → length marks ≡ 256 → PlanClaims f k marks
 
--- ---- round 1
+-- ---- a round
 
--- of round 1 of the plan from marks
-pub record FirstRoundClaims (f : Family) (k : ℕ) (marks : List Bool) : Type 0 where
+-- the nodes that may be read once steps of a round are made are those live when it began that none of the steps reads
+abbrev pub FreeClaim : Type 0
+FreeClaim = (marks : List Bool) (steps : List Step) (i : ℕ) → (isLive (freeAfter marks steps) i ≡ true) ↔ ((isLive marks i ≡ true) × (timesRead i steps ≡ 0))
+
+-- when node j's turn comes in a round with these steps, a and b, of which a is the smaller, may be read and are related to j: both were live
+-- when the round began, and none of its steps for a node below j reads either
+abbrev pub FreePair : Family → ℕ → List Bool → List Step → ℕ → ℕ → ℕ → Type 0
+FreePair f k marks steps j a b = IsPair f k (freeAfter marks (beforeNode j steps)) j a b
+
+-- of a round that begins with marks, and its steps
+pub record RoundClaims (f : Family) (k : ℕ) (marks : List Bool) (steps : List Step) : Type 0 where
+  -- nodes are taken by rising number
+  pub rising : rises (repairedNodes steps) ≡ true
+  -- each is missing
+  pub missing : (step : Step) → List·Memᴰ step steps → IsNode f k (step .node) × (isLive marks (step .node) ≡ false)
+  -- and repaired from a pair that may be read when its turn comes
+  pub pair : (step : Step) → List·Memᴰ step steps → FreePair f k marks steps (step .node) (step .smaller) (step .larger)
+  -- of which the smaller node is least
+  pub least : (step : Step) → List·Memᴰ step steps → (a b : ℕ) → FreePair f k marks steps (step .node) a b → step .smaller ≤ a
+  -- a missing node that waits had none when its turn came
+  pub waits : (j : ℕ) → IsNode f k j → isLive marks j ≡ false → (List·Memᴰ j (repairedNodes steps) → ⊥) → (a b : ℕ) → FreePair f k marks steps j a b → ⊥
+  -- no node is read twice
+  pub once : (i : ℕ) → timesRead i steps ≤ 1
+
+-- of the rounds of the plan from marks
+pub record PlanRoundsClaims (f : Family) (k : ℕ) (marks : List Bool) : Type 0 where
+  -- each begins with the marks that those before it leave
+  pub each : (r : ℕ) → 1 ≤ r → RoundClaims f k (marksAfter marks (beforeRound r (planOf f k marks))) (inRound r (planOf f k marks))
+  -- each as far as the last repairs a node
+  pub some : (r : ℕ) → 1 ≤ r → r ≤ lastRound (planOf f k marks) → 1 ≤ length (inRound r (planOf f k marks))
+  -- so that they are at most as many as the steps, and a round's number fits its byte
+  pub few : lastRound (planOf f k marks) ≤ length (planOf f k marks)
+  -- and a step's round is one of them
+  pub within : (step : Step) → List·Memᴰ step (planOf f k marks) → (1 ≤ step .round) × (step .round ≤ lastRound (planOf f k marks))
+  -- the marks after all rounds are those after all waves: the nodes left are the same
+  pub same-left : marksAfter marks (planOf f k marks) ≡ marksAfter marks (wavesOf f k marks)
+  -- no node returns in a round before its wave
+  pub no-sooner : (j r w : ℕ) → RepairedIn j r (planOf f k marks) → RepairedIn j w (wavesOf f k marks) → w ≤ r
+  -- and the rounds are at least as many as the waves
+  pub waves : lastRound (wavesOf f k marks) ≤ lastRound (planOf f k marks)
+
+abbrev pub PlanRoundsClaim : Type 0
+PlanRoundsClaim = (f : Family) (k : ℕ) → KInRange f k → (marks : List Bool) → length marks ≡ 256 → PlanRoundsClaims f k marks
+
+-- ---- wave 1
+
+-- of wave 1 from marks
+pub record FirstWaveClaims (f : Family) (k : ℕ) (marks : List Bool) : Type 0 where
   -- it repairs exactly the missing nodes that have a pair by the count
-  pub repaired : (j : ℕ) → RepairedIn j 1 (planOf f k marks) ↔ (IsNode f k j × (isLive marks j ≡ false) × (1 ≤ pairCount f k marks j))
+  pub repaired : (j : ℕ) → RepairedIn j 1 (wavesOf f k marks) ↔ (IsNode f k j × (isLive marks j ≡ false) × (1 ≤ pairCount f k marks j))
   -- and its steps read the pairs that the search gives
-  pub smaller : (step : Step) → List·Memᴰ step (planOf f k marks) → step .round ≡ 1 → step .smaller ≡ pairsOf f k marks (step .node) .smaller
-  pub larger : (step : Step) → List·Memᴰ step (planOf f k marks) → step .round ≡ 1 → step .larger ≡ pairsOf f k marks (step .node) .larger
+  pub smaller : (step : Step) → List·Memᴰ step (wavesOf f k marks) → step .round ≡ 1 → step .smaller ≡ pairsOf f k marks (step .node) .smaller
+  pub larger : (step : Step) → List·Memᴰ step (wavesOf f k marks) → step .round ≡ 1 → step .larger ≡ pairsOf f k marks (step .node) .larger
 
-abbrev pub FirstRoundClaim : Type 0
-FirstRoundClaim = (f : Family) (k : ℕ) → KInRange f k → (marks : List Bool) → length marks ≡ 256 → FirstRoundClaims f k marks
+abbrev pub FirstWaveClaim : Type 0
+FirstWaveClaim = (f : Family) (k : ℕ) → KInRange f k → (marks : List Bool) → length marks ≡ 256 → FirstWaveClaims f k marks
 
 -- ---- reads
 

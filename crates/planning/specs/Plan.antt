@@ -1,15 +1,14 @@
--- The plan (document 01, "Plan"): rounds from 1, the steps of a round, and what a plan comes to.
+-- The plan (document 01, "Plan", and document 02, K11): rounds from 1, the steps of a round, and what a plan comes to.
 use mathlib.Core.Path.{_≡_}
-use mathlib.Core.Bool.{Bool, cond, not, _&&_, _||_}
+use mathlib.Core.Bool.{Bool, false, cond, _||_}
 use mathlib.Core.List.{List, List·Memᴰ, [], _∷_, _++_, map, flatMap, getLastD}
 use Prim.Native.Nat.{ℕ, zero, suc, _+_}
 use lib.Dec.{eqb, ltb}
-use lib.ListN.{length}
-use Rattle.base.specs.Ranges.{thoseFrom}
+use lib.ListN.{length, set}
 use Rattle.families.specs.declared.Family.{Family}
 use Rattle.families.specs.Families.{nodeCount}
-use Rattle.lists.specs.Lists.{isLive, setLive, missingNodes}
-use Rattle.pairing.specs.Pairs.{smallerNode, pairsOf}
+use Rattle.lists.specs.Lists.{setLive, missingNodes}
+use Rattle.pairing.specs.Pairs.{pairsAmong}
 
 -- a step of a plan: its round, the node that it repairs, and the pair
 pub record Step : Type 0 where
@@ -18,17 +17,38 @@ pub record Step : Type 0 where
   pub smaller : ℕ
   pub larger : ℕ
 
--- node j is repaired in a round that begins with these marks: it is missing and has a pair
-unfoldable pub isRepaired : Family → ℕ → List Bool → ℕ → Bool
-isRepaired f k marks j = not (isLive marks j) && ltb 0 (smallerNode f k marks j)
+-- the step of round r that repairs node j, from the pair that the search gives among the nodes that may be read
+abbrev pub stepOf : Family → ℕ → List Bool → List Bool → ℕ → ℕ → Step
+stepOf f k marks free r j = let pairs = pairsAmong f k marks free j in record { round = r; node = j; smaller = pairs .smaller; larger = pairs .larger }
 
--- the step of round r that repairs node j, from the pair that the search gives
-abbrev pub stepOf : Family → ℕ → List Bool → ℕ → ℕ → Step
-stepOf f k marks r j = let pairs = pairsOf f k marks j in record { round = r; node = j; smaller = pairs .smaller; larger = pairs .larger }
+-- how nodes are read: which may be read after a step, of those that may be before it
+abbrev pub Reading : Type 0
+Reading = List Bool → Step → List Bool
 
--- the steps of round r, from the marks when it begins: a step for each node that it repairs, rising
-abbrev pub roundSteps : Family → ℕ → List Bool → ℕ → List Step
-roundSteps f k marks r = map (stepOf f k marks r) (thoseFrom (isRepaired f k marks) 1 (nodeCount f k))
+-- a node is read once: neither of a step's pair may be read again (document 02, K11; a round)
+unfoldable pub once : Reading
+once free step = set (set free (step .smaller) false) (step .larger) false
+
+-- a node is read by any number of repairs: all may be read again (document 01; a wave)
+abbrev pub often : Reading
+often free step = free
+
+-- the steps of round r for missing nodes, in the order of their list: each with its least pair of nodes that may be read; a node without
+-- one waits
+unfoldable pub stepsFor : Reading → Family → ℕ → List Bool → ℕ → List Bool → List ℕ → List Step
+stepsFor reading f k marks r free [] = []
+stepsFor reading f k marks r free (j ∷ nodes) =
+    let step = stepOf f k marks free r j in
+    cond (eqb (step .smaller) 0) (stepsFor reading f k marks r free nodes) (step ∷ stepsFor reading f k marks r (reading free step) nodes)
+
+-- the steps of round r, from the marks when it begins: missing nodes are taken by rising number, and every live node may be read
+abbrev pub roundSteps : Reading → Family → ℕ → List Bool → ℕ → List Step
+roundSteps reading f k marks r = stepsFor reading f k marks r marks (missingNodes marks (nodeCount f k))
+
+-- the nodes that may be read in a round once some of its steps are made: those live when it began that none of them reads (`FreeClaim`)
+unfoldable pub freeAfter : List Bool → List Step → List Bool
+freeAfter marks [] = marks
+freeAfter marks (step ∷ steps) = freeAfter (once marks step) steps
 
 -- the nodes that steps repair
 abbrev pub repairedNodes : List Step → List ℕ
@@ -56,18 +76,32 @@ marksAfter marks steps = setLive marks (repairedNodes steps)
 
 -- the rounds r, r + 1, .., of which there are m; a node repaired in a round serves from the next. A round without repairs leaves
 -- the marks, so that no later one has a step: it ends the plan (`PlanClaims`)
-unfoldable pub roundsFrom : Family → ℕ → ℕ → List Bool → ℕ → List Step
-roundsFrom f k r marks zero = []
-roundsFrom f k r marks (suc m) = let steps = roundSteps f k marks r in steps ++ roundsFrom f k (suc r) (marksAfter marks steps) m
+unfoldable pub roundsFrom : Reading → Family → ℕ → ℕ → List Bool → ℕ → List Step
+roundsFrom reading f k r marks zero = []
+roundsFrom reading f k r marks (suc m) = let steps = roundSteps reading f k marks r in steps ++ roundsFrom reading f k (suc r) (marksAfter marks steps) m
 
--- these rounds, in which a live node may be read by any number of repairs, are called waves (document 02, K11). The waves from marks: n
--- are enough, since each until they end repairs a node (`PlanClaims`)
+-- the plan: n rounds are enough, since each until they end repairs a node (`PlanClaims`)
+unfoldable pub planOf : Family → ℕ → List Bool → List Step
+planOf f k marks = roundsFrom once f k 1 marks (nodeCount f k)
+
+-- the waves: document 01's rounds, in which a live node may be read by any number of repairs
 unfoldable pub wavesOf : Family → ℕ → List Bool → List Step
-wavesOf f k marks = roundsFrom f k 1 marks (nodeCount f k)
+wavesOf f k marks = roundsFrom often f k 1 marks (nodeCount f k)
 
--- the plan: its rounds are waves
-abbrev pub planOf : Family → ℕ → List Bool → List Step
-planOf f k marks = wavesOf f k marks
+-- the steps that pass a test
+unfoldable pub stepsWith : (Step → Bool) → List Step → List Step
+stepsWith test [] = []
+stepsWith test (step ∷ steps) = cond (test step) (step ∷ stepsWith test steps) (stepsWith test steps)
+
+-- those of round r, those of the rounds before it, and those that repair a node below j
+abbrev pub inRound : ℕ → List Step → List Step
+inRound r steps = stepsWith (λ (step : Step). eqb (step .round) r) steps
+
+abbrev pub beforeRound : ℕ → List Step → List Step
+beforeRound r steps = stepsWith (λ (step : Step). ltb (step .round) r) steps
+
+abbrev pub beforeNode : ℕ → List Step → List Step
+beforeNode j steps = stepsWith (λ (step : Step). ltb (step .node) j) steps
 
 -- four bytes a step: round, node, smaller, larger
 unfoldable pub stepBytes : List Step → List ℕ

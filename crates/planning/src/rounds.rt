@@ -5,13 +5,15 @@ use pairing::Found;
 use pairing::count::count_missing;
 use pairing::search::find_next;
 ghost use mathlib.Core.Path.{_≡_};
+ghost use mathlib.Core.Bool.{false};
 ghost use mathlib.Core.List.{[], _∷_, _++_};
 ghost use Prim.Native.Nat.{_+_, _*_, _≤_, _<_};
-ghost use lib.ListN.{length, drop};
+ghost use lib.ListN.{length, set, drop};
 ghost use borrow.Rule.Slice.PartMut.{putMid};
 ghost use Rattle.families.specs.Families.{KInRange, nodeCount};
 ghost use Rattle.families.specs.Inner.{columnTable};
-ghost use Rattle.planning.specs.Plan.{roundSteps, marksAfter, planOf, stepBytes};
+ghost use Rattle.lists.specs.Inner.{without};
+ghost use Rattle.planning.specs.Plan.{once, roundSteps, marksAfter, planOf, stepBytes};
 ghost use Rattle.planning.specs.Inner.{plannedOf};
 
 // A step as its four bytes.
@@ -26,8 +28,20 @@ fn put_step(out: &mut [u8], round: usize, found: Found)
     out[3] = found.pairs.larger as u8;
 }
 
+// A pair is read: its nodes are free no more, and go from the list of those that are. Gives how many are left.
+fn read_pair(list: &mut [u8], free: &mut [bool; 256], smaller: usize, larger: usize) -> usize
+    requires { ⌜ (smaller < 256) × (larger < 256) ⌝ }
+    ensures { λ r. ⌜ r ≡ length (without smaller larger (now (list .entry))) ⌝ }
+    ensures { λ _. ⌜ now (list .exit) ≡ without smaller larger (now (list .entry)) ++ drop (length (without smaller larger (now (list .entry)))) (now (list .entry)) ⌝ }
+    ensures { λ _. ⌜ now (free .exit) ≡ set (set (now (free .entry)) smaller false) larger false ⌝ }
+{
+    free[smaller] = false;
+    free[larger] = false;
+    lists::leave_out(list, smaller, larger)
+}
+
 // The steps of a round, put into `out` from place `from` on, and their nodes live in `next`; `marks` are those when the round
-// begins. Gives how many they are.
+// begins. Gives how many they are. A node is free until it is read: `list` has the free ones.
 fn plan_round(
     family: Family,
     k: usize,
@@ -39,28 +53,35 @@ fn plan_round(
     next: &mut [bool; 256],
 ) -> usize
     requires { ⌜ KInRange family k × (now columns ≡ columnTable family k) ⌝ }
-    requires { ⌜ round + length (roundSteps family k (now marks) round) ≤ 256 ⌝ }
-    requires { ⌜ from + 4 * length (roundSteps family k (now marks) round) ≤ length (now out) ⌝ }
-    ensures { λ r. ⌜ r ≡ length (roundSteps family k (now (marks .entry)) round) ⌝ }
-    ensures { λ r. ⌜ now (out .exit) ≡ putMid from (4 * length (roundSteps family k (now (marks .entry)) round)) (now (out .entry)) (stepBytes (roundSteps family k (now (marks .entry)) round)) ⌝ }
-    ensures { λ r. ⌜ now (next .exit) ≡ marksAfter (now (next .entry)) (roundSteps family k (now (marks .entry)) round) ⌝ }
+    requires { ⌜ round + length (roundSteps once family k (now marks) round) ≤ 256 ⌝ }
+    requires { ⌜ from + 4 * length (roundSteps once family k (now marks) round) ≤ length (now out) ⌝ }
+    ensures { λ r. ⌜ r ≡ length (roundSteps once family k (now (marks .entry)) round) ⌝ }
+    ensures { λ r. ⌜ now (out .exit) ≡ putMid from (4 * length (roundSteps once family k (now (marks .entry)) round)) (now (out .entry)) (stepBytes (roundSteps once family k (now (marks .entry)) round)) ⌝ }
+    ensures { λ r. ⌜ now (next .exit) ≡ marksAfter (now (next .entry)) (roundSteps once family k (now (marks .entry)) round) ⌝ }
 {
     let n = families::node_count(family, k);
-    let count = lists::count_live(marks, n);
+    let mut count = lists::count_live(marks, n);
     if count == n {
         return 0;
     }
-    let all = lists::list_live(marks, n);
-    let counts = count_missing(family, k, columns, &all[..count], marks);
+    let mut list = lists::list_live(marks, n);
+    let counts = count_missing(family, k, columns, &list[..count], marks);
+    let mut free = *marks;
     let mut steps: usize = 0;
     let mut node: usize = 0;
     loop {
-        let found = find_next(family, k, columns, &all[..count], marks, &counts, node);
+        let found = find_next(family, k, columns, &list[..count], &free, &counts, node);
         if found.node == 0 {
             return steps;
         }
         let at = from + 4 * steps;
         put_step(&mut out[at..at + 4], round, found);
+        count = read_pair(
+            &mut list[..count],
+            &mut free,
+            found.pairs.smaller,
+            found.pairs.larger,
+        );
         node = found.node;
         next[node] = true;
         steps += 1;

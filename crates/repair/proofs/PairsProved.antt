@@ -17,9 +17,8 @@ use Rattle.pairing.specs.declared.Pairs.{Pairs}
 use Rattle.pairing.specs.Pairs.{pairCount, mostPairs}
 use Rattle.pairing.specs.Claims.{SearchClaims, IsPair}
 use Rattle.pairing.proofs.Proved.{search-claim}
-use Rattle.planning.specs.Plan.{RepairedIn}
-use Rattle.planning.specs.Claims.{FirstRoundClaims}
-use Rattle.planning.proofs.Proved.{first-round-claim}
+use Rattle.planning.specs.Claims.{FirstWaveClaims}
+use Rattle.planning.proofs.Proved.{first-wave-claim}
 use Rattle.repair.specs.declared.Session.{Session}
 use Rattle.repair.specs.declared.PairsFound.{PairsFound}
 use Rattle.repair.specs.Session.{Arrays, nodeCountOf, unsound}
@@ -73,7 +72,7 @@ module _ (s : Session) (sound : unsound s ≡ false) (j : ℕ) (node : IsNode (f
             let p = given h in
             ap₂ xorBytes (live (pairsFound s j .smaller) (p .smaller .node) (p .smaller .live)) (live (pairsFound s j .larger) (p .larger .node) (p .larger .live))
             ∙ sym (related-block (familyOf (s .family)) (s .k) (s .len) object fits (pairsFound s j .smaller) (pairsFound s j .larger) j (p .related));
-        round-1 = λ missing. (
+        wave-1 = λ missing. (
           (λ t. omega (arith, count-is, first .repaired j .0 t .2)),
           (λ h. first .repaired j .1 (node, missing, some h)),
         );
@@ -83,8 +82,8 @@ module _ (s : Session) (sound : unsound s ≡ false) (j : ℕ) (node : IsNode (f
             (sound, fits, record { node = node; smaller = p .smaller .node; larger = p .larger .node; related = p .related; missing = missing; smaller-live = p .smaller .live; larger-live = p .larger .live });
       }
     where
-      first : FirstRoundClaims (familyOf (s .family)) (s .k) (s .live)
-      first = first-round-claim (familyOf (s .family)) (s .k) range (s .live) size
+      first : FirstWaveClaims (familyOf (s .family)) (s .k) (s .live)
+      first = first-wave-claim (familyOf (s .family)) (s .k) range (s .live) size
 
 pub pairs-claim : PairsClaim
 pairs-claim s size j h = let a = pairs-accepted s j h in claims s (a .sound) j (a .node) size

@@ -12,11 +12,10 @@ use Rattle.checks.proofs.AnswerLaws.{answer-either}
 use Rattle.lists.specs.Lists.{isLive}
 use Rattle.lists.proofs.Laws.{length-setLive}
 use Rattle.pairing.specs.Pairs.{NoPairLeft}
-use Rattle.planning.specs.Plan.{Step, repairedNodes, marksAfter, lastRound, nodesLeft}
+use Rattle.planning.specs.Plan.{Step, repairedNodes, marksAfter, nodesLeft}
+use Rattle.planning.specs.Claims.{PlanRoundsClaims}
 use Rattle.planning.proofs.CarryLaws.{steps-back}
-use Rattle.planning.proofs.Proved.{plan-claim}
-use Rattle.waves.specs.Waves.{mostWaves}
-use Rattle.waves.proofs.Proved.{wave-claim}
+use Rattle.planning.proofs.Proved.{plan-claim, plan-rounds-claim}
 use Rattle.repair.specs.declared.Session.{Session}
 use Rattle.repair.specs.declared.Repairs.{Repairs}
 use Rattle.repair.specs.Session.{afresh, Arrays, nodeCountOf, unsound, nodesChecks}
@@ -54,20 +53,30 @@ unfolding planned outPlanned
 plan-writes s out h = let e = plan-accepted s out h in rw e (steps-back (planIn s) (drop (4 * length (planIn s)) out))
 
 module _ (s : Session) (marks : length (s .live) ≡ 256) where
-  few-rounds : unsound s ≡ false → lastRound (planIn s) ≤ mostWaves (s .k)
-  few-rounds sound = wave-claim (familyOf (s .family)) (s .k) (known s sound .range .blocks) (s .live) marks .few-waves
+  of-rounds : unsound s ≡ false → PlanRoundsClaims (familyOf (s .family)) (s .k) (s .live)
+  of-rounds sound = plan-rounds-claim (familyOf (s .family)) (s .k) (known s sound .range .blocks) (s .live) marks
 
   rounds-claims : (sound : Bool) → unsound s ≡ sound → RoundsClaims s
   unfolding planned ran planChecks nodesChecks firstMet
   rounds-claims true e =
-      let none : 0 ≤ mostWaves (s .k) = omega arith in
-      record { waves = refl; plan = λ out. rw e none; run = λ nodes. rw e none }
+      let none : 0 ≤ 0 = omega arith in
+      record {
+        each = of-rounds;
+        plan = λ out h. rw (plan-accepted s out h);
+        run = λ nodes h. rw (run-accepted s nodes h);
+        waves = λ sound. of-rounds sound .waves;
+        plan-few = λ out. rw e none;
+        run-few = λ nodes. rw e none;
+      }
   rounds-claims false e =
       record {
-        waves = refl;
-        plan = λ out. answer-either (planChecks s out) (repairsOf s s) (refusedRepairs s) (λ (r : Repairs). r .rounds ≤ mostWaves (s .k)) (few-rounds e) (λ n. omega arith);
-        run = λ nodes.
-            answer-either (nodesChecks s (length nodes)) (repairsOf s (afterSteps s (planIn s))) (refusedRepairs s) (λ (r : Repairs). r .rounds ≤ mostWaves (s .k)) (few-rounds e) (λ n. omega arith);
+        each = of-rounds;
+        plan = λ out h. rw (plan-accepted s out h);
+        run = λ nodes h. rw (run-accepted s nodes h);
+        waves = λ sound. of-rounds sound .waves;
+        plan-few = λ out. answer-either (planChecks s out) (repairsOf s s) (refusedRepairs s) (λ (r : Repairs). r .rounds ≤ r .steps) (of-rounds e .few) (λ n. omega arith);
+        run-few = λ nodes.
+            answer-either (nodesChecks s (length nodes)) (repairsOf s (afterSteps s (planIn s))) (refusedRepairs s) (λ (r : Repairs). r .rounds ≤ r .steps) (of-rounds e .few) (λ n. omega arith);
       }
 
 pub rounds-claim : RoundsClaim

@@ -11,12 +11,12 @@ use Rattle.encoding.specs.Matrix.{nodeBlock}
 use Rattle.lists.specs.Lists.{isLive}
 use Rattle.pairing.specs.Pairs.{pairCount, mostPairs, LiveNode}
 use Rattle.pairing.specs.Claims.{IsPair}
-use Rattle.planning.specs.Plan.{RepairedIn}
+use Rattle.planning.specs.Plan.{RepairedIn, wavesOf}
 use Rattle.repair.specs.declared.Session.{Session}
 use Rattle.repair.specs.Session.{Arrays, nodeCountOf}
 use Rattle.repair.specs.Pairs.{pairsFound}
 use Rattle.repair.specs.Step.{stepped}
-use Rattle.repair.specs.Repairs.{planIn, ran}
+use Rattle.repair.specs.Repairs.{ran}
 use Rattle.repair.specs.RepairClaims.{LiveAreOwn}
 
 -- of a session and one of its nodes, live or missing
@@ -37,8 +37,8 @@ pub record PairsClaims (s : Session) (j : ℕ) : Type 0 where
   pub read : 1 ≤ pairsFound s j .count → (object nodes : List ℕ) → length object ≡ s .k * s .len → LiveAreOwn object s nodes
       → xorBytes (blockOf (s .len) nodes (pairsFound s j .smaller)) (blockOf (s .len) nodes (pairsFound s j .larger))
       ≡ nodeBlock (s .k) (s .len) object (columnOf (familyOf (s .family)) (s .k) j)
-  -- a missing node: round 1 of the plan repairs it exactly where the count is above 0, and a step from the pair is then accepted
-  pub round-1 : isLive (s .live) j ≡ false → RepairedIn j 1 (planIn s) ↔ (1 ≤ pairsFound s j .count)
+  -- a missing node: wave 1 repairs it exactly where the count is above 0, and a step from the pair is then accepted
+  pub wave-1 : isLive (s .live) j ≡ false → RepairedIn j 1 (wavesOf (familyOf (s .family)) (s .k) (s .live)) ↔ (1 ≤ pairsFound s j .count)
   pub step : isLive (s .live) j ≡ false → 1 ≤ pairsFound s j .count → (nodes : List ℕ) → length nodes ≡ nodeCountOf s * s .len
       → stepped s nodes j (pairsFound s j .smaller) (pairsFound s j .larger) .refusal ≡ 0
 

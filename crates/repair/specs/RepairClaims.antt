@@ -10,11 +10,10 @@ use Rattle.families.specs.Families.{familyOf, IsNode, columnOf}
 use Rattle.blocks.specs.Blocks.{blockOf}
 use Rattle.encoding.specs.Matrix.{nodeBlock}
 use Rattle.lists.specs.Lists.{someOutside, rises, isLive, someMissing}
-use Rattle.planning.specs.Claims.{CanMake}
+use Rattle.planning.specs.Claims.{CanMake, PlanRoundsClaims}
 use Rattle.pairing.specs.Pairs.{NoPairLeft}
-use Rattle.planning.specs.Plan.{Step, wavesOf}
+use Rattle.planning.specs.Plan.{Step, wavesOf, lastRound}
 use Rattle.planning.specs.Made.{stepsIn}
-use Rattle.waves.specs.Waves.{mostWaves}
 use Rattle.repair.specs.declared.Session.{Session}
 use Rattle.repair.specs.Session.{afresh, Arrays, nodeCountOf, unsound}
 use Rattle.repair.specs.Boxed.{writtenLength, written}
@@ -81,11 +80,17 @@ LiveStaysClaim = (s : Session) (nodes : List ℕ) (move : Move) (j : ℕ) → is
 abbrev pub PlanWritesClaim : Type 0
 PlanWritesClaim = (s : Session) (out : List ℕ) → planned s out .refusal ≡ 0 → stepsIn (outPlanned s out) (planned s out .steps) ≡ planIn s
 
--- the rounds of a session's plan are waves, and so there are few of them in what plan and run give, refused or not
+-- of the rounds of a session's plan
 pub record RoundsClaims (s : Session) : Type 0 where
-  pub waves : planIn s ≡ wavesOf (familyOf (s .family)) (s .k) (s .live)
-  pub plan : (out : List ℕ) → planned s out .rounds ≤ mostWaves (s .k)
-  pub run : (nodes : List ℕ) → ran s nodes .rounds ≤ mostWaves (s .k)
+  -- they are as K11 says: in each no node is read twice, none before the last is empty, and they leave the nodes that the waves leave
+  pub each : unsound s ≡ false → PlanRoundsClaims (familyOf (s .family)) (s .k) (s .live)
+  -- plan and run, where accepted, give the last step's, which is at least the last wave
+  pub plan : (out : List ℕ) → planned s out .refusal ≡ 0 → planned s out .rounds ≡ lastRound (planIn s)
+  pub run : (nodes : List ℕ) → ran s nodes .refusal ≡ 0 → ran s nodes .rounds ≡ lastRound (planIn s)
+  pub waves : unsound s ≡ false → lastRound (wavesOf (familyOf (s .family)) (s .k) (s .live)) ≤ lastRound (planIn s)
+  -- accepted or not, there are at most as many as steps
+  pub plan-few : (out : List ℕ) → planned s out .rounds ≤ planned s out .steps
+  pub run-few : (nodes : List ℕ) → ran s nodes .rounds ≤ ran s nodes .steps
 
 abbrev pub RoundsClaim : Type 0
 RoundsClaim = (s : Session) → length (s .live) ≡ 256 → RoundsClaims s

@@ -1,5 +1,5 @@
--- `pairing::search::find_next` meets its contract: the walk leaves behind it no node whose count is not 0, and at such a node the
--- search leaves behind it no live node with a live partner.
+-- `pairing::search::find_next` meets its contract: the walk leaves behind it no node whose count is not 0 and that has a pair, and at a node
+-- the search leaves behind it no free node with a free partner.
 -- Assumes nothing.
 use mathlib.Core.Path.{sym, _∙_}
 use Prim.Native.Nat.{_-_, _<_}
@@ -13,23 +13,23 @@ use Rattle.pairing.proofs.search.find_next.Statement.{statement}
 use Rattle.pairing.proofs.search.find_next.Tie as tie
 
 abbrev Inv-search : tie.InvT-search
-Inv-search family k columns live marks counts after n node count i₀ i = Searching family k live marks node i
+Inv-search family k columns list free counts after n node count i₀ i = Searching family k list free node i
 
 abbrev μ-search : tie.MeasureT-search
-μ-search family k columns live marks counts after n node count i₀ i = length live - i
+μ-search family k columns list free counts after n node count i₀ i = length list - i
 
 abbrev Inv-walk : tie.InvT-walk
-Inv-walk family k columns live marks counts after n node₀ node = Walking family k columns live marks counts after node
+Inv-walk family k columns list free counts after n node₀ node = Walking family k columns list free counts after node
 
 abbrev μ-walk : tie.MeasureT-walk
-μ-walk family k columns live marks counts after n node₀ node = n - node
+μ-walk family k columns list free counts after n node₀ node = n - node
 
 -- a place of the code, which `search` finds by its type
 abbrev Place : (tie.InvT-search → tie.MeasureT-search → tie.InvT-walk → tie.MeasureT-walk → Type 0) → Type 0
 Place P = P Inv-search μ-search Inv-walk μ-walk
 
 walk-holds : tie.Need-walk-holds Inv-search μ-search Inv-walk μ-walk
-walk-holds c = walk-none (search) (search) (search)
+walk-holds c = walk-none (search) (search)
 
 -- the next node is a node
 below : (c : Place tie.In-walk) → let w = c .before in let g = w .before .before .before .args in w .walk .node < nodeCount (g .family) (g .k)
@@ -53,30 +53,24 @@ walk-again-2 : tie.Need-walk-again-2 Inv-search μ-search Inv-walk μ-walk
 walk-again-2 c =
     let w : Place tie.At-walk = search in
     let s : Place tie.At-search = search in
-    let q : Place tie.After-wide = search in
-    let o : Place tie.Else1 = search in
-    walk-over (w .walk .inv) (below (search)) (λ z. o .if1 .left (q .wide .ensures ∙ z)) (s .search .inv) (omega arith)
+    walk-over (w .walk .inv) (below (search)) (s .search .inv) (omega arith)
 
 live-partner-requires : tie.Need-live-partner-requires Inv-search μ-search Inv-walk μ-walk
 live-partner-requires c κs =
     let w : Place tie.At-walk = search in
     let s : Place tie.At-search = search in
-    let q : Place tie.After-wide = search in
-    let o : Place tie.Else1 = search in
     let a : Place tie.After-wide2 = search in
     let b = w .walk .inv .begins in
     let l = below (search) in
-    ((b .range, walk-node (w .walk .inv) l, rw (a .wide2 .ensures) (search-node (w .walk .inv) l (λ z. o .if1 .left (q .wide .ensures ∙ z)) (s .search .inv) (omega arith))), b .table)
+    ((b .range, walk-node (w .walk .inv) l, rw (a .wide2 .ensures) (search-node (w .walk .inv) l (s .search .inv) (omega arith))), b .table)
 
 search-again : tie.Need-search-again Inv-search μ-search Inv-walk μ-walk
 search-again c =
     let w : Place tie.At-walk = search in
     let s : Place tie.At-search = search in
-    let q : Place tie.After-wide = search in
-    let o : Place tie.Else1 = search in
     let a : Place tie.After-wide2 = search in
     let b : Place tie.After-live-partner = search in
-    search-more (w .walk .inv) (below (search)) (λ z. o .if1 .left (q .wide .ensures ∙ z)) (s .search .inv) (omega arith) (a .wide2 .ensures) (b .live-partner .ensures) (omega arith)
+    search-more (w .walk .inv) (below (search)) (s .search .inv) (omega arith) (a .wide2 .ensures) (b .live-partner .ensures) (omega arith)
 
 returns : tie.Need-returns Inv-search μ-search Inv-walk μ-walk
 returns c =
@@ -87,7 +81,7 @@ returns c =
     let a : Place tie.After-wide2 = search in
     let b : Place tie.After-live-partner = search in
     rw (q .wide .ensures)
-    (search-found (w .walk .inv) (below (search)) (λ z. o .if1 .left (q .wide .ensures ∙ z)) (s .search .inv) (omega arith) (a .wide2 .ensures) (b .live-partner .ensures) (c .if2 .taken))
+    (search-found (w .walk .inv) (below (search)) (s .search .inv) (omega arith) (a .wide2 .ensures) (b .live-partner .ensures) (λ z. o .if1 .left (q .wide .ensures ∙ z)) (c .if2 .taken))
 
 returns-2 : tie.Need-returns-2 Inv-search μ-search Inv-walk μ-walk
 returns-2 c =

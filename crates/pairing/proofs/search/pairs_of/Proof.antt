@@ -1,7 +1,6 @@
 -- `pairing::search::pairs_of` meets its contract: the node alone is counted, so that the walk finds it or nothing.
 -- Assumes nothing.
 use mathlib.Core.Path.{_≡_, _∙_}
-use mathlib.Core.List.{[], _∷_}
 use Prim.Native.Nat.{_≤_}
 use native.Mathlib.Omega.{arith}
 use borrow.Author.Needs.{needs}
@@ -10,7 +9,6 @@ use Rattle.families.specs.Families.{nodeCount}
 use Rattle.families.proofs.Laws.{few}
 use Rattle.lists.specs.Lists.{liveNodes}
 use Rattle.pairing.specs.Inner.{SearchBegins}
-use Rattle.pairing.proofs.EachLaws.{own-counts}
 use Rattle.pairing.proofs.ListedLaws.{listed, fits-in}
 use Rattle.pairing.proofs.OneLaws.{found-alone}
 use Rattle.pairing.proofs.search.pairs_of.Statement.{statement}
@@ -43,8 +41,7 @@ begins c = record { range = search; table = search; nodes = live-list c }
 find-next-requires : tie.Need-find-next-requires
 find-next-requires c κs =
     let e : tie.Start = search in
-    let q : tie.After-count-alone = search in
-    (begins (search), ((λ j n. rw (q .count-alone .ensures) (own-counts (e .args .family) (e .args .k) (e .args .t3) (e .args .j ∷ []) j (omega (arith, n .last, node-few e)))), omega (arith, e .pre .1 .last)))
+    (begins (search), omega (arith, e .pre .1 .last))
 
 returns : tie.Need-returns
 returns c =

@@ -1,31 +1,32 @@
 -- `planning::rounds::plan_round` meets its contract: each turn finds the round's next repair, until there is none. What the search goes
 -- by stands in the invariant.
 -- Assumes nothing.
-use mathlib.Core.Path.{_≡_, refl, sym, _∙_}
-use mathlib.Core.List.{flatMap}
-use Prim.Native.Nat.{suc, _+_, _-_, _*_, _≤_}
+use mathlib.Core.Path.{_≡_, refl, sym, ap, _∙_}
+use mathlib.Core.List.{List, _++_, flatMap}
+use Prim.Native.Nat.{ℕ, suc, _+_, _-_, _*_, _≤_}
 use native.Mathlib.Nat.{add-sub-cancel-left}
 use native.Mathlib.Omega.{arith}
 use denote.Ref.{now}
-use lib.ListN.{length, take, length-take, take-append-drop}
+use lib.ListN.{length, take, drop, length-take, take-append-drop}
 use Rattle.base.specs.Ranges.{firstFrom}
 use Rattle.blocks.proofs.PartLaws.{length-mid}
 use Rattle.families.specs.Families.{nodeCount}
 use Rattle.families.proofs.Laws.{few}
 use Rattle.lists.specs.Lists.{liveNodes, setLive}
-use Rattle.planning.specs.Plan.{isRepaired, stepBytes}
+use Rattle.planning.specs.Plan.{once, stepBytes}
+use Rattle.planning.proofs.MakeLaws.{isRepaired}
 use Rattle.pairing.specs.Inner.{SearchBegins, foundAt}
 use Rattle.pairing.proofs.ListedLaws.{listed, fits-in}
-use Rattle.pairing.proofs.EachLaws.{own-counts}
-use Rattle.planning.proofs.RoundLaws.{all-live, missingCounts, found-repaired, InRound, Next, next-none, next-some, round-none, round-some, round-room, round-more, round-done}
+use Rattle.planning.proofs.RoundLaws.{all-live, missingCounts, found-next, InRound, Next, next-none, next-some, round-none, round-some, round-room, round-more, round-done}
 use Rattle.planning.proofs.rounds.plan_round.Statement.{statement}
 use Rattle.planning.proofs.rounds.plan_round.Tie as tie
 
 abbrev Inv-loop : tie.InvT-loop
-Inv-loop family k columns marks round out₀ from next₀ n count all counts steps₀ node₀ out next steps node = SearchBegins family k columns (take count all) marks × (counts ≡ missingCounts family k marks) × InRound family k marks round out₀ from next₀ out next steps node
+Inv-loop family k columns marks round out₀ from next₀ n count₀ list₀ counts free₀ steps₀ node₀ out next count list free steps node =
+    (counts ≡ missingCounts family k marks) × InRound family k marks round out₀ from next₀ out next list count free steps node
 
 abbrev μ-loop : tie.MeasureT-loop
-μ-loop family k columns marks round out₀ from next₀ n count all counts steps₀ node₀ out next steps node = n - node
+μ-loop family k columns marks round out₀ from next₀ n count₀ list₀ counts free₀ steps₀ node₀ out next count list free steps node = n - node
 
 -- a place of the code, which `search` finds by its type
 abbrev Place : (tie.InvT-loop → tie.MeasureT-loop → Type 0) → Type 0
@@ -45,7 +46,7 @@ returns c =
     let n : Place tie.After-node-count = search in
     let l : Place tie.After-count-live = search in
     let g = e .args in
-    let s = all-live (g .family) (g .k) (now (g .marks)) (nodeCount (g .family) (g .k)) (omega (arith, rw (n .node-count .ensures) at (sym (l .count-live .ensures) ∙ c .if1 .taken))) in
+    let s = all-live once (g .family) (g .k) (now (g .marks)) (g .round) (omega (arith, rw (n .node-count .ensures) at (sym (l .count-live .ensures) ∙ c .if1 .taken))) in
     rw s (refl, (sym (take-append-drop (g .from) (g .out .now)), refl))
 
 list-live-requires : tie.Need-list-live-requires Inv-loop μ-loop
@@ -71,68 +72,82 @@ begins c = record { range = search; table = search; nodes = live-list c }
 loop-holds : tie.Need-loop-holds Inv-loop μ-loop
 loop-holds c =
     let q : Place tie.After-count-missing = search in
-    (begins (search), q .count-missing .ensures, round-none (search))
+    (q .count-missing .ensures, round-none (search) (live-fits (search)) (live-list (search)))
 
-find-next-requires : tie.Need-find-next-requires Inv-loop μ-loop
-find-next-requires c κs =
-    let e : Place tie.Start = search in
-    let t : Place tie.At-loop = search in
-    let b = t .loop .inv in
-    (b .0, ((λ j n. rw (b .1) (own-counts (e .args .family) (e .args .k) (now (e .args .marks)) _ j (omega (arith, n .last, node-few e)))), b .2 .within))
+-- the place before the loop where the arguments are, which is too far for `search`
+abbrev begin : Place tie.At-loop → Place tie.Start
+begin t = t .before .before .before .before .before .before .before .before .before
+
+-- the nodes that may still be read, for the search
+free-list : (t : Place tie.At-loop) → let g = begin t .args in SearchBegins (g .family) (g .k) (now (g .columns)) (take (t .loop .count) (t .loop .list)) (t .loop .free)
+free-list t = record { range = search; table = search; nodes = t .loop .inv .1 .nodes }
 
 -- what the search gives, as the round's next repair
-next-found : (r : Place tie.After-find-next) → let t = r .before .before .before in let g = t .before .before .before .before .before .before .before .before .args in
-    r .find-next .result ≡ foundAt (g .family) (g .k) (now (g .marks)) (firstFrom (isRepaired (g .family) (g .k) (now (g .marks))) (suc (t .loop .node)) (nodeCount (g .family) (g .k) - t .loop .node))
+next-found : (r : Place tie.After-find-next) → let t = r .before .before .before .before in let g = begin t .args in
+    r .find-next .result ≡ foundAt (g .family) (g .k) (t .loop .free) (missingCounts (g .family) (g .k) (now (g .marks))) (firstFrom (isRepaired (g .family) (g .k) (now (g .marks)) (t .loop .free)) (suc (t .loop .node)) (nodeCount (g .family) (g .k) - t .loop .node))
 next-found r =
-    let e : Place tie.Start = search in
     let t : Place tie.At-loop = search in
+    let e = begin t in
     let b = t .loop .inv in
-    r .find-next .ensures ∙ rw (b .1, found-repaired _ _ (b .0 .range) (now (e .args .marks)) (t .loop .node) (b .2 .within))
+    found-next _ _ (e .pre .0 .0) (now (e .args .marks)) (t .loop .free) (b .1 .live) (t .loop .node) (b .1 .within) (b .0) (r .find-next .ensures)
 
 returns-2 : tie.Need-returns-2 Inv-loop μ-loop
 returns-2 c =
     let t : Place tie.At-loop = search in
-    let w = t .loop .inv .2 in
-    rw (round-done w (next-none _ _ _ _ _ _ (next-found (search)) (c .if2 .taken))) (w .count, (w .bytes, w .marked))
+    let w = t .loop .inv .1 in
+    rw (round-done w (next-none _ _ _ _ _ _ _ _ (next-found (search)) (c .if2 .taken))) (w .count-is, (w .bytes, w .marked))
 
 -- the repair that was found
-found : (c : Place tie.Else2) → let r = c .before .before in let t = r .before .before .before in let g = t .before .before .before .before .before .before .before .before .args in Next (g .family) (g .k) (now (g .marks)) (g .round) (t .loop .node) (r .find-next .result)
-found c = let t : Place tie.At-loop = search in next-some _ _ _ _ _ _ (next-found (search)) (t .loop .inv .0 .range) (t .loop .inv .2 .within) (c .if2 .left)
+found : (c : Place tie.Else2) → let r = c .before .before in let t = r .before .before .before .before in let g = begin t .args in Next (g .family) (g .k) (now (g .marks)) (g .round) (t .loop .free) (t .loop .node) (r .find-next .result)
+found c =
+    let t : Place tie.At-loop = search in
+    let e = begin t in
+    next-some _ _ _ _ _ _ _ _ (next-found (search)) (e .pre .0 .0) (t .loop .inv .1 .within) (c .if2 .left)
 
 part-put-step-end : tie.Need-part-put-step-end Inv-loop μ-loop
-part-put-step-end c = let t : Place tie.At-loop = search in round-room (t .loop .inv .2) _ (found (search))
+part-put-step-end c = let t : Place tie.At-loop = search in round-room (t .loop .inv .1) _ (found (search))
 
 add-put-step : tie.Need-add-put-step Inv-loop μ-loop
 add-put-step c =
-    let e : Place tie.Start = search in
     let t : Place tie.At-loop = search in
-    omega (arith, part-put-step-end (search), t .loop .inv .2 .kept, e)
+    let e = begin t in
+    omega (arith, part-put-step-end (search), t .loop .inv .1 .kept, e)
 
 put-step-requires : tie.Need-put-step-requires Inv-loop μ-loop
 put-step-requires c κs =
-    let e : Place tie.Start = search in
     let t : Place tie.At-loop = search in
+    let e = begin t in
     let n = found (search) in
     let h = node-few e in
     let at = e .args .from + 4 * t .loop .steps in
-    (rw (add-sub-cancel-left at 4) (length-mid (t .loop .out) at 4 (part-put-step-end (search))), (omega (arith, e .pre .1 .0, round-some (t .loop .inv .2) _ n), omega (arith, n .last), omega (arith, n .smaller-last), omega (arith, n .larger-last)))
+    (rw (add-sub-cancel-left at 4) (length-mid (t .loop .out) at 4 (part-put-step-end (search))), (omega (arith, e .pre .1 .0, round-some (t .loop .inv .1) _ n), omega (arith, n .last), omega (arith, n .smaller-last), omega (arith, n .larger-last)))
+
+read-pair-requires : tie.Need-read-pair-requires Inv-loop μ-loop
+read-pair-requires c κs =
+    let t : Place tie.At-loop = search in
+    let n = found (search) in
+    let h = node-few (begin t) in
+    (omega (arith, n .smaller-last), omega (arith, n .larger-last))
 
 element-write-next : tie.Need-element-write-next Inv-loop μ-loop
-element-write-next c = omega (arith, found (search) .last, node-few (search))
+element-write-next c = let t : Place tie.At-loop = search in omega (arith, found (search) .last, node-few (begin t))
 
 loop-less : tie.Need-loop-less Inv-loop μ-loop
 loop-less c =
-    let m : Place tie.After-node-count = search in
+    let t : Place tie.At-loop = search in
+    let m : Place tie.After-node-count = t .before .before .before .before .before .before .before in
     let n = found (search) in
     omega (arith, n .above, n .last, m .node-count .ensures)
 
 loop-again : tie.Need-loop-again Inv-loop μ-loop
 loop-again c =
-    let e : Place tie.Start = search in
     let t : Place tie.At-loop = search in
+    let e = begin t in
     let p : Place tie.After-put-step = search in
+    let q : Place tie.After-read-pair = search in
     let b = t .loop .inv in
-    rw (p .put-step .ensures, add-sub-cancel-left (e .args .from + 4 * t .loop .steps) 4) (b .0, b .1, round-more (b .2) _ (found (search)))
+    let w = q .read-pair .ensures in
+    (b .0, rw (p .put-step .ensures, add-sub-cancel-left (e .args .from + 4 * t .loop .steps) 4, w .1 .1) (round-more (b .1) _ (found (search)) _ _ (w .0) (ap (λ (part : List ℕ). part ++ drop (t .loop .count) (t .loop .list)) (w .1 .0))))
 
 pub plan-round-spec : {M : Type 1} → statement M
 plan-round-spec =
@@ -148,10 +163,10 @@ plan-round-spec =
     (λ c. rw length-take (omega (arith, live-fits (search))))
     (λ c κs. begins (search))
     loop-holds
-    (λ c. live-fits (search))
-    (λ c. rw length-take (omega (arith, live-fits (search))))
-    find-next-requires
-    (λ c. search)
+    (λ c. let t : Place tie.At-loop = search in t .loop .inv .1 .fits)
+    (λ c. let t : Place tie.At-loop = search in rw length-take (omega (arith, t .loop .inv .1 .fits)))
+    (λ c κs. let t : Place tie.At-loop = search in (free-list t, t .loop .inv .1 .within))
+    (λ c. let t : Place tie.At-loop = search in t .loop .inv .1 .kept)
     returns-2
     (λ c. omega (arith, add-put-step (search)))
     (λ c. omega (arith, add-put-step (search)))
@@ -160,6 +175,9 @@ plan-round-spec =
     (λ c. omega arith)
     part-put-step-end
     put-step-requires
+    (λ c. let t : Place tie.At-loop = search in t .loop .inv .1 .fits)
+    (λ c. let t : Place tie.At-loop = search in rw length-take (omega (arith, t .loop .inv .1 .fits)))
+    read-pair-requires
     element-write-next
     (λ c. omega (arith, add-put-step (search)))
     loop-less
