@@ -1,6 +1,6 @@
 /*
  * An object is stored as a box that keeps three of its seven nodes; the others are planned and repaired, the reads that this took and
- * the pairs of the node that was read most are printed, and all seven are put away and the object read out. It is C99 and C++ alike.
+ * the pairs of one of the nodes are printed, and all seven are put away and the object read out. It is C99 and C++ alike.
  * Where the library is installed:
  *
  *   cc -std=c99 repair.c $(pkg-config --cflags --libs mogtriz) -o repair && ./repair

@@ -45,7 +45,7 @@
  * The version of this header, raised when a layout or an answer changes. Where the library's is another, what it takes and gives
  * may be other than what is said here.
  */
-#define MOGTRIZ_VERSION 5
+#define MOGTRIZ_VERSION 6
 
 /* The families, with the range of k and n. */
 #define MOGTRIZ_SIMPLEX 1 /* n is 2^k - 1 */
@@ -361,9 +361,10 @@ MOGTRIZ_CALL mogtriz_read_out_answer mogtriz_read_out(mogtriz_session session, c
 /*
  * The pairs that a node, live or missing, can be had from: two live nodes that are related to it, whose blocks' XOR is its block. Given
  * are the pair whose smaller number is least, and `count`, how many pairs there are; no block is read. A live node can so be read
- * through a pair while its own drive rests. Of the missing nodes, those with a count above 0 are repaired in round 1 of a plan, each
- * from the pair given here, and no others are. With all nodes live the count is (n - 1) / 2 in simplex, k - 1 in weight-two and 6 in the
- * tetrahedron, and it is never more; it is 0 exactly where there is no pair. Gives 0 or: 13, 4 where the node is 0 or above n.
+ * through a pair while its own drive rests. Round 1 of a plan repairs no missing node but those with a count above 0. It repairs the
+ * first of them from the pair given here; a later one may get another pair or have to wait, as a node is read once in a round. With all
+ * nodes live the count is (n - 1) / 2 in simplex, k - 1 in weight-two and 6 in the tetrahedron, and it is never more; it is 0 exactly
+ * where there is no pair. Gives 0 or: 13, 4 where the node is 0 or above n.
  */
 MOGTRIZ_ANSWERS mogtriz_pairs_found mogtriz_pairs(mogtriz_session session, size_t node);
 
@@ -376,13 +377,18 @@ MOGTRIZ_CALL mogtriz_stepped mogtriz_step(mogtriz_session session, uint8_t *node
                                           size_t second);
 
 /*
- * The repairs to make, in rounds from 1. In a round every missing node with a related pair, both live when the round began,
- * is repaired from the pair whose smaller number is least; it serves from the next round on. Each step is MOGTRIZ_STEP_LEN bytes:
- * round, node, smaller, larger; in a round they rise by node. There are at most n steps, and nothing beyond them is written. No plan
- * has more rounds than 1 for k = 2, 2 for 3 and 4, 3 for 5 to 8, 4 for 9 to 16, 5 for 17 to 22: a node is repaired in the least round r
- * for which its column is the XOR of the columns of at most 2^r nodes that are live when round 1 begins, and a node that is left has
- * no such r. Where nodes are left the plan is accepted all the same, and `left` says how many. Gives 0 or: 13, 6 where the destination
- * is shorter than the plan.
+ * The repairs to make, in rounds from 1. A drive serves one request a round, so that in a round no node is read twice. Missing nodes
+ * are taken by rising number, each with its least related pair of which both were live when the round began and neither was read in that
+ * round; a node without one waits. Least is the pair whose smaller number is least. A node that is repaired serves from the next round
+ * on, and a round without repairs is not counted and ends the plan. Each step is MOGTRIZ_STEP_LEN bytes: round, node, smaller, larger;
+ * in a round they rise by node. There are at most n steps, and nothing beyond them is written. Where nodes are left the plan is accepted
+ * all the same, and `left` says how many. Gives 0 or: 13, 6 where the destination is shorter than the plan.
+ *
+ * How many rounds: each repairs a node, so that there are no more rounds than steps. Waves are what rounds were before version 6, when a
+ * node could be read by any number of repairs in one. A node returns in the least wave r for which its column is the XOR of the columns
+ * of at most 2^r nodes that are live when round 1 begins, and a node that is left has no such r. There are no more waves than 1 for
+ * k = 2, 2 for 3 and 4, 3 for 5 to 8, 4 for 9 to 16, 5 for 17 to 22. A plan leaves the nodes that waves leave, and has as many rounds as
+ * there are waves, or more.
  */
 MOGTRIZ_CALL mogtriz_repairs mogtriz_plan(mogtriz_session session, uint8_t *out, size_t out_len);
 

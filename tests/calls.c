@@ -245,7 +245,7 @@ static void call_pairs(void)
 
 static void call_repairs(void)
 {
-    const uint8_t wanted[] = {1, 1, 4, 5, 1, 2, 5, 7, 1, 3, 4, 7, 2, 6, 1, 7};
+    const uint8_t wanted[] = {1, 1, 4, 5, 2, 2, 5, 7, 3, 3, 1, 2, 4, 6, 1, 7};
     uint8_t steps[4 * N], nodes[N * LEN];
     memcpy(nodes, three_nodes, sizeof nodes);
 
@@ -255,14 +255,14 @@ static void call_repairs(void)
     EXPECT(stepped.refusal == MOGTRIZ_SERVED && stepped.session.live[1] == 1 && nodes[0] == 1);
 
     mogtriz_repairs plan = mogtriz_plan(three_live(), steps, sizeof steps);
-    EXPECT(plan.refusal == MOGTRIZ_SERVED && plan.steps == 4 && plan.rounds == 2 && plan.left == 0);
+    EXPECT(plan.refusal == MOGTRIZ_SERVED && plan.steps == 4 && plan.rounds == 4 && plan.left == 0);
     EXPECT(same_session(plan.session, three_live()) && memcmp(steps, wanted, sizeof wanted) == 0);
     plan = mogtriz_plan(three_live(), steps, sizeof wanted - 1);
     EXPECT(plan.refusal == MOGTRIZ_REFUSED_BUFFER_LENGTH && plan.steps == 0 && plan.rounds == 0 && plan.left == 0);
 
     memcpy(nodes, three_nodes, sizeof nodes);
     mogtriz_repairs run = mogtriz_run(three_live(), nodes, sizeof nodes);
-    EXPECT(run.refusal == MOGTRIZ_SERVED && run.steps == 4 && run.rounds == 2 && run.left == 0);
+    EXPECT(run.refusal == MOGTRIZ_SERVED && run.steps == 4 && run.rounds == 4 && run.left == 0);
     EXPECT(run.session.live[1] == 1 && run.session.live[6] == 1 && memcmp(nodes, all_nodes, sizeof nodes) == 0);
     run = mogtriz_run(no_session(), nodes, sizeof nodes);
     EXPECT(run.refusal == MOGTRIZ_REFUSED_NO_SUCH_SESSION && run.steps == 0 && same_session(run.session, no_session()));
@@ -300,10 +300,11 @@ static void call_to_be_counted(void)
     mogtriz_written written = mogtriz_write(wanted, nodes, sizeof nodes, kept, sizeof kept, box, sizeof box);
     EXPECT(written.refusal == MOGTRIZ_SERVED && same_session(written.session, wanted));
 
-    /* the run goes on with 2 from 5 and 7, 3 from 4 and 7, and 6 from 1 and 7; from the start it is these and 1 from 4 and 5 */
+    /* the run goes on with 2 from 5 and 7, 3 from 1 and 2, and 6 from 1 and 7; from the start it is these and 1 from 4 and 5 */
     mogtriz_repairs run = mogtriz_run(wanted, nodes, sizeof nodes);
-    wanted = counted(4, 2, 2, 3);
-    wanted.reads[1] = 1;
+    wanted = counted(4, 1, 2, 2);
+    wanted.reads[1] = 2;
+    wanted.reads[2] = 1;
     memset(wanted.live + 1, 1, N);
     EXPECT(run.refusal == MOGTRIZ_SERVED && run.steps == 3 && same_session(run.session, wanted));
     run = mogtriz_run(three_live(), nodes, sizeof nodes);

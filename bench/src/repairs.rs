@@ -1,6 +1,6 @@
-//! Planning, timed against the same search with its count of pairs in Rust, and against a search that ends with the pair; the pairs of
-//! each node, timed against the same in Rust; runs, timed against the same XORs in Rust and by ISA-L, and against Rust that plans them
-//! first, as a run does; and steps, timed against Rust that checks the same of sound sessions. The rivals count no reads.
+//! Planning, timed against the same rule in Rust with its count of pairs, and against Rust that counts nothing; the pairs of each node,
+//! timed against the same in Rust; runs, timed against the same XORs in Rust and by ISA-L, and against Rust that plans them first, as a
+//! run does; and steps, timed against Rust that checks the same of sound sessions. The rivals count no reads.
 use crate::isal;
 use crate::rivals::{self, Family, Planner};
 use crate::table::{Line, Table};
@@ -50,22 +50,29 @@ pub fn with_some_lost(random: &mut Random) -> [Case; 3] {
     ]
 }
 
-/// Data block 1 and the pairs 1 2, 2 3 and so on, which take the most rounds.
-fn path() -> Case {
-    let columns = code(2, K).columns();
-    let on_path = |column: usize| column == 1 || (0..K - 1).any(|i| column == 0b11 << i);
-    let nodes = (1..=255).zip(columns);
+fn weight_two(word: &'static str, live: Vec<u8>) -> Case {
     Case {
         family: Family::WeightTwo,
         k: K,
-        word: "path",
-        live: nodes
-            .filter(|&(_, c)| on_path(c))
-            .map(|(node, _)| node)
-            .collect(),
+        word,
+        live,
     }
 }
 
+/// Data block 1 and the pairs 1 2, 2 3 and so on: a plan of 8 rounds, and of 5 waves, as many as there can be.
+fn path() -> Case {
+    let columns = code(2, K).columns();
+    let on_path = |column: usize| column == 1 || (0..K - 1).any(|i| column == 0b11 << i);
+    let nodes = (1..=255).zip(columns).filter(|&(_, c)| on_path(c));
+    weight_two("path", nodes.map(|(node, _)| node).collect())
+}
+
+/// The nodes of the data blocks of weight-two 22. A plan from them has 12 rounds, in one wave.
+fn weight_two_data() -> Case {
+    weight_two("data", (1..=K as u8).collect())
+}
+
+/// The nodes of the data blocks of simplex 8. A plan from them has 11 rounds, in 3 waves.
 fn data_nodes() -> Vec<u8> {
     (0..8).map(|i| 1 << i).collect()
 }
@@ -93,7 +100,7 @@ impl Case {
     }
 }
 
-/// How many pairs the nodes that a plan repairs have in all, each when its round begins.
+/// How many pairs the nodes that a plan repairs have in all, each when its round begins; whether they are read in it plays no part.
 fn pairs_of_repaired(session: Session, plan: &planner::Plan) -> usize {
     let (mut began, mut sum) = (session, 0);
     for round in 1..=plan.rounds {
@@ -144,6 +151,7 @@ pub fn plans(some_lost: &[Case], meter: &mut Meter) -> Table {
         simplex("data", data_nodes()),
         simplex("1-127", (1..=127).collect()),
         simplex("none", vec![]),
+        weight_two_data(),
         path(),
     ];
     let cases = some_lost.iter().cloned().chain(hard);
@@ -192,12 +200,7 @@ fn pairs_of_each(case: &Case, meter: &mut Meter) -> Line {
 
 pub fn pairs(some_lost: &[Case], meter: &mut Meter) -> Table {
     let half = simplex("half", (1..=255).step_by(2).collect());
-    let all = Case {
-        family: Family::WeightTwo,
-        k: K,
-        word: "all",
-        live: (1..=253).collect(),
-    };
+    let all = weight_two("all", (1..=253).collect());
     let cases = some_lost.iter().cloned().chain([half, all]);
     Table {
         title: "pairs of each node",

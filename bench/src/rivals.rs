@@ -2,6 +2,7 @@
 //! box, the list of the live nodes, planning, the pairs of a node, and relations. Which blocks go where is worked out beforehand, so
 //! that a rival's time is that of the blocks alone; a planner works out all of it in the call.
 use std::fmt::Display;
+use std::iter;
 
 /// The families that are timed, with their numbers.
 #[derive(Clone, Copy)]
@@ -191,13 +192,13 @@ impl Planner {
     }
 
     /// Goes through the first members upward; a member's partner is the node of the column that it lacks.
-    fn pair_for(&self, node: usize, live: &[bool; 256]) -> Option<[usize; 2]> {
+    fn pair_for(&self, node: usize, serves: &[bool; 256]) -> Option<[usize; 2]> {
         // `1..=n` would take longer
         let end = self.n.min(255) + 1;
         for a in 1..end {
-            if live[a] {
+            if serves[a] {
                 let b = self.third(node, a);
-                if live[b] {
+                if serves[b] {
                     return Some([a, b]);
                 }
             }
@@ -205,8 +206,20 @@ impl Planner {
         None
     }
 
-    /// The same pair of a missing node, and how many there are, by the live nodes: each pair is met twice, by its first member and by
-    /// its second.
+    /// The same where the nodes that serve can be gone through alone.
+    fn pair_among(
+        &self,
+        node: usize,
+        serves: &[bool; 256],
+        mut serving: impl Iterator<Item = usize>,
+    ) -> Option<[usize; 2]> {
+        serving.find_map(|a| {
+            let b = self.third(node, a);
+            serves[b].then_some([a, b])
+        })
+    }
+
+    /// The least pair of a node and how many it has, by the live nodes.
     fn pairs_by_live(
         &self,
         node: usize,
@@ -223,8 +236,7 @@ impl Planner {
         Some(Found { least, count })
     }
 
-    /// The same by the missing nodes: of twice the most, each takes one away, and one more where it leaves a live node without its
-    /// partner.
+    /// The same by the missing nodes.
     fn pairs_by_missing(
         &self,
         node: usize,
@@ -232,13 +244,35 @@ impl Planner {
         missing: impl Iterator<Item = usize>,
     ) -> Option<Found> {
         let least = self.pair_for(node, is_live)?;
+        let count = self.count_by_missing(node, is_live, missing);
+        Some(Found { least, count })
+    }
+
+    /// How many pairs a missing node has, by the live nodes: each pair is met twice, by its first member and by its second.
+    fn count_by_live(
+        &self,
+        node: usize,
+        is_live: &[bool; 256],
+        live: impl Iterator<Item = usize>,
+    ) -> usize {
+        let members = live.filter(|&a| is_live[self.third(node, a)]);
+        members.count() / 2
+    }
+
+    /// The same by the missing nodes: of twice the most, each takes one away, and one more where it leaves a live node without its
+    /// partner.
+    fn count_by_missing(
+        &self,
+        node: usize,
+        is_live: &[bool; 256],
+        missing: impl Iterator<Item = usize>,
+    ) -> usize {
         // the node itself is in none of its pairs
         let taken = missing.filter(|&other| other != node).map(|other| {
             let b = self.third(node, other);
             usize::from(b != 0) + usize::from(is_live[b])
         });
-        let count = self.most_pairs() - taken.sum::<usize>() / 2;
-        Some(Found { least, count })
+        self.most_pairs() - taken.sum::<usize>() / 2
     }
 }
 
@@ -274,79 +308,138 @@ fn live_are_fewer(is_live: &[bool; 256], n: usize) -> bool {
 /// How many steps a plan has, its rounds and the nodes left.
 pub type Counts = [usize; 3];
 
+/// A set of nodes: a bit for each, to go through them, and a mark for each, to ask for one.
+#[derive(Clone, Copy)]
+struct Nodes {
+    words: [u64; 4],
+    marks: [bool; 256],
+}
+
+impl Nodes {
+    fn marked(marks: &[u8; 256]) -> Nodes {
+        let marks = marks.map(|mark| mark == 1);
+        let mut words = [0; 4];
+        for (word, marks) in words.iter_mut().zip(marks.chunks_exact(64)) {
+            let bits = marks.iter().enumerate();
+            *word = bits.fold(0, |word, (i, &mark)| word | u64::from(mark) << i);
+        }
+        Nodes { words, marks }
+    }
+
+    fn add(&mut self, node: usize) {
+        self.words[node / 64] |= 1 << (node % 64);
+        self.marks[node] = true;
+    }
+
+    fn remove(&mut self, node: usize) {
+        self.words[node / 64] &= !(1 << (node % 64));
+        self.marks[node] = false;
+    }
+
+    fn count(&self) -> usize {
+        let counts = self.words.map(|word| word.count_ones() as usize);
+        counts.iter().sum()
+    }
+
+    /// Rising.
+    fn iter(&self) -> impl Iterator<Item = usize> {
+        let words = self.words.into_iter().zip([0, 64, 128, 192]);
+        words.flat_map(|(mut rest, first)| {
+            iter::from_fn(move || {
+                if rest == 0 {
+                    return None;
+                }
+                let node = first + rest.trailing_zeros() as usize;
+                rest &= rest - 1;
+                Some(node)
+            })
+        })
+    }
+}
+
 /// A plan that is being made.
 struct Plan {
     steps: Vec<u8>,
     rounds: usize,
-    live: [bool; 256],
+    live: Nodes,
+    missing: usize,
 }
 
 impl Plan {
     fn add(&mut self, node: usize, [smaller, larger]: [usize; 2]) {
         let step = [self.rounds + 1, node, smaller, larger];
         self.steps.extend(step.map(|number| number as u8));
-        self.live[node] = true;
+        self.live.add(node);
+        self.missing -= 1;
     }
 }
 
-/// Writes the steps that rounds add, until one adds none.
+/// Writes the steps that rounds add, until one adds none or no node is missing.
 fn plan_by(n: usize, live: &[u8; 256], out: &mut [u8], mut round: impl FnMut(&mut Plan)) -> Counts {
+    let live = Nodes::marked(live);
     let mut plan = Plan {
         steps: Vec::with_capacity(4 * n),
         rounds: 0,
-        live: live.map(|mark| mark == 1),
+        live,
+        missing: n - live.count(),
     };
-    loop {
-        let before = plan.steps.len();
+    while plan.missing > 0 {
+        let before = plan.missing;
         round(&mut plan);
-        if plan.steps.len() == before {
+        if plan.missing == before {
             break;
         }
         plan.rounds += 1;
     }
-    let Plan {
-        steps,
-        rounds,
-        live,
-    } = plan;
-    out[..steps.len()].copy_from_slice(&steps);
-    let left = live[1..=n].iter().filter(|&&live| !live).count();
-    [steps.len() / 4, rounds, left]
+    out[..plan.steps.len()].copy_from_slice(&plan.steps);
+    [plan.steps.len() / 4, plan.rounds, plan.missing]
 }
 
-/// Writes the plan's steps, each found with the number of pairs that its node has when the round begins; gives the sum of these too.
+/// The repairs of a round: missing nodes by rising number, each with its least pair of which both were live when the round began and
+/// neither was read in it.
+fn each_repair(planner: &Planner, live: &Nodes, mut repair: impl FnMut(usize, [usize; 2])) {
+    let mut unread = *live;
+    let mut count = unread.count();
+    for node in (1..=planner.n).filter(|&node| !live.marks[node]) {
+        // the others wait
+        if count < 2 {
+            return;
+        }
+        if let Some(pair) = planner.pair_among(node, &unread.marks, unread.iter()) {
+            pair.into_iter().for_each(|read| unread.remove(read));
+            count -= 2;
+            repair(node, pair);
+        }
+    }
+}
+
+/// Writes the plan's steps, each found with the number of live pairs that its node has when the round begins; gives the sum of these
+/// too. The pairs of a node that waits are not counted.
 pub fn plan(family: Family, k: usize, live: &[u8; 256], out: &mut [u8]) -> (Counts, usize) {
     let planner = Planner::new(family, k);
     let mut pairs = 0;
     let counts = plan_by(planner.n, live, out, |plan| {
         let began = plan.live;
         // the shorter list, made once for all nodes of the round
-        let by_live = live_are_fewer(&began, planner.n);
-        let list = List::of(by_live, &began, planner.n);
-        for node in (1..=planner.n).filter(|&node| !began[node]) {
-            let found = match by_live {
-                true => planner.pairs_by_live(node, &began, list.nodes()),
-                false => planner.pairs_by_missing(node, &began, list.nodes()),
+        let by_live = began.count() <= plan.missing;
+        let list = List::of(by_live, &began.marks, planner.n);
+        each_repair(&planner, &began, |node, pair| {
+            plan.add(node, pair);
+            pairs += match by_live {
+                true => planner.count_by_live(node, &began.marks, list.nodes()),
+                false => planner.count_by_missing(node, &began.marks, list.nodes()),
             };
-            if let Some(Found { least, count }) = found {
-                plan.add(node, least);
-                pairs += count;
-            }
-        }
+        });
     });
     (counts, pairs)
 }
 
-/// Writes the plan's steps by a search that ends with the pair.
+/// Writes the plan's steps and counts nothing.
 pub fn plan_by_pairs(family: Family, k: usize, live: &[u8; 256], out: &mut [u8]) -> Counts {
     let planner = Planner::new(family, k);
     plan_by(planner.n, live, out, |plan| {
         let began = plan.live;
-        for node in (1..=planner.n).filter(|&node| !began[node]) {
-            if let Some(pair) = planner.pair_for(node, &began) {
-                plan.add(node, pair);
-            }
-        }
+        each_repair(&planner, &began, |node, pair| plan.add(node, pair));
     })
 }
 

@@ -17,6 +17,7 @@ pub mod pairs;
 pub mod papers;
 pub mod planner;
 pub mod random;
+pub mod rounds;
 pub mod samples;
 pub mod tally;
 pub mod triples;

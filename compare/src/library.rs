@@ -3,10 +3,11 @@
 //! refused start or box, stand here for what C gives, and a session is what the call left of the one lent to it.
 //! `mogtriz::raw` has what C gives.
 use crate::boxes::NO_SESSION;
-use mogtriz::Refusal;
+use crate::planner::{Step, steps_in};
 use mogtriz::raw::{
-    Converted, PairsFound, Part, ReadOut, Repairs, Session, Started, Stepped, Written,
+    self, Converted, PairsFound, Part, ReadOut, Repairs, Session, Started, Stepped, Written,
 };
+use mogtriz::{PLAN_ROOM, Refusal};
 
 pub fn encode(family: usize, k: usize, len: usize, object: &[u8], nodes: &mut [u8]) -> u8 {
     number(mogtriz::encode(family, k, len, object, nodes))
@@ -121,6 +122,17 @@ pub fn plan(session: Session, out: &mut [u8]) -> Repairs {
     let session = handed_in(session);
     let answer = session.plan(out).map(|plan| plan.repairs);
     repairs(answer, &session)
+}
+
+/// The steps of a plan and its counts, which are the same from C.
+pub fn planned(session: Session) -> (Vec<Step>, Repairs) {
+    let [planned, from_c] = [plan, raw::plan].map(|plan| {
+        let mut bytes = [0; PLAN_ROOM];
+        let answer = plan(session, &mut bytes);
+        (steps_in(&bytes[..4 * answer.steps]), answer)
+    });
+    assert_eq!(planned, from_c);
+    planned
 }
 
 pub fn run(session: Session, nodes: &mut [u8]) -> Repairs {

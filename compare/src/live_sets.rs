@@ -1,8 +1,8 @@
 //! Sets of live nodes that a planner has work with: about k nodes, chains and trees, parts of spans, and all or none but a few.
 use crate::open::Span;
-use crate::papers::{Code, columns_of};
+use crate::papers::{Code, columns_of, every_code};
 use crate::random::Random;
-use crate::samples::some_of;
+use crate::samples::{nodes_in, some_of};
 use std::collections::BTreeSet;
 
 /// Codes with so few nodes that every set is compared.
@@ -46,7 +46,7 @@ impl LiveSets {
     }
 
     /// k nodes, each data block in turn being tied to one of the last `reach` before it, the first to none: one
-    /// at a time makes a chain, which takes the most rounds.
+    /// at a time makes a chain, which takes the most waves.
     fn tied(self, reach: usize, order: &[usize], random: &mut Random) -> Vec<u8> {
         let mut bits = vec![0];
         let mut nodes = Vec::new();
@@ -129,6 +129,46 @@ impl LiveSets {
             paths.push(rising([&path[..i], &path[i + 1..]].concat()));
         }
         paths
+    }
+}
+
+/// Every set of the small codes.
+pub fn small_sets(mut visit: impl FnMut(&Code, Vec<u8>)) {
+    for code in every_code().iter().filter(|code| is_small(code)) {
+        for bits in 0..1 << code.n() {
+            visit(code, nodes_in(bits));
+        }
+    }
+}
+
+/// A way to choose a set.
+pub type Choice = fn(LiveSets, &mut Random) -> Vec<u8>;
+
+pub const CHOICES: [Choice; 9] = [
+    LiveSets::about_k,
+    LiveSets::chain,
+    LiveSets::tree,
+    LiveSets::broken,
+    LiveSets::of_low_rank,
+    LiveSets::flat,
+    LiveSets::few_lost,
+    LiveSets::many_lost,
+    LiveSets::any,
+];
+
+/// How many codes are not small.
+pub const OTHER_CODES: usize = 23;
+
+/// Sets of the other codes, so many chosen in each way.
+pub fn other_sets(times: usize, mut visit: impl FnMut(&Code, Vec<u8>)) {
+    let mut random = Random::seeded();
+    for code in every_code().iter().filter(|code| !is_small(code)) {
+        let (family, k) = (code.family, code.k);
+        for choose in CHOICES {
+            for _ in 0..times {
+                visit(code, choose(LiveSets { family, k }, &mut random));
+            }
+        }
     }
 }
 

@@ -6,6 +6,12 @@ use mogtriz::raw::{Repairs, Session, Stepped};
 /// A step as a plan writes it: round, node, smaller, larger.
 pub type Step = [u8; 4];
 
+/// The steps that a plan's bytes hold.
+pub fn steps_in(bytes: &[u8]) -> Vec<Step> {
+    let steps = bytes.chunks_exact(4);
+    steps.map(|step| [0, 1, 2, 3].map(|i| step[i])).collect()
+}
+
 /// All steps of a plan, and the session once they are made.
 pub struct Plan {
     pub steps: Vec<Step>,
@@ -51,15 +57,31 @@ pub fn run(session: Session, nodes: &mut [u8]) -> Repairs {
     }
 }
 
-/// The plan of a session that is taken.
+/// How often a live node may be read in a round.
+#[derive(Clone, Copy, PartialEq)]
+enum Reads {
+    Once,
+    AnyNumber,
+}
+
+/// The plan of a session that is taken, in rounds in which a node is read once at most (document 02, K11).
 pub fn plan_of(session: &Session) -> Plan {
+    planned(session, Reads::Once)
+}
+
+/// The same in waves, the rounds of document 01, in which a node may be read by any number of repairs.
+pub fn waves_of(session: &Session) -> Plan {
+    planned(session, Reads::AnyNumber)
+}
+
+fn planned(session: &Session, reads: Reads) -> Plan {
     let mut plan = Plan {
         steps: Vec::new(),
         rounds: 0,
         session: *session,
     };
     loop {
-        let steps = round(&plan.session, plan.rounds + 1);
+        let steps = round(&plan.session, plan.rounds + 1, reads);
         if steps.is_empty() {
             return plan;
         }
@@ -76,7 +98,7 @@ pub fn pairs(session: &Session, node: u8) -> Vec<[u8; 2]> {
     Live::of(session).pairs(column(session, node)).collect()
 }
 
-/// The live nodes, rising, and their columns.
+/// Live nodes, rising, and their columns.
 struct Live {
     nodes: Vec<u8>,
     columns: Vec<u32>,
@@ -102,6 +124,13 @@ impl Live {
             Some([self.nodes[a], self.nodes[b]])
         })
     }
+
+    fn remove(&mut self, node: u8) {
+        let place = self.nodes.iter().position(|&other| other == node);
+        let place = place.expect("a node of these");
+        self.nodes.remove(place);
+        self.columns.remove(place);
+    }
 }
 
 /// The column of a node from 1 to n.
@@ -116,15 +145,23 @@ fn related(session: &Session, triple: [u8; 3]) -> bool {
     a ^ b ^ c == 0
 }
 
-/// The steps of one round. Its repairs are from the nodes that are live now, when it begins.
-fn round(session: &Session, number: usize) -> Vec<Step> {
-    let live = Live::of(session);
-    let step = |node: u8| {
-        let [smaller, larger] = live.pairs(column(session, node)).next()?;
-        Some([number as u8, node, smaller, larger])
-    };
-    let missing = missing_nodes(session).into_iter();
-    missing.filter_map(step).collect()
+/// The steps of one round: missing nodes by rising number, each with its least pair of which both are live now, when the round begins,
+/// and may still be read. A node without one waits.
+fn round(session: &Session, number: usize, reads: Reads) -> Vec<Step> {
+    let mut may_be_read = Live::of(session);
+    let mut steps = Vec::new();
+    for node in missing_nodes(session) {
+        let least = may_be_read.pairs(column(session, node)).next();
+        let Some([smaller, larger]) = least else {
+            continue;
+        };
+        steps.push([number as u8, node, smaller, larger]);
+        if reads == Reads::Once {
+            may_be_read.remove(smaller);
+            may_be_read.remove(larger);
+        }
+    }
+    steps
 }
 
 /// The first node's block becomes the XOR of the two others'.

@@ -1,6 +1,6 @@
 //! The wave in which each node returns (document 02, K9), from the columns alone: only XORs of live columns are formed, and no pair
-//! that repairs a node is looked for. A wave is a round in which a live node may be read by any number of repairs, which the rounds of
-//! plans and runs are.
+//! that repairs a node is looked for. A wave is a round of document 01, in which a live node may be read by any number of repairs; in a
+//! round of a plan it is read once at most (K11), so that there are as many rounds as waves or more.
 use crate::papers::columns_of;
 use crate::samples::nodes_in;
 

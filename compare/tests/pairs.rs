@@ -1,19 +1,17 @@
 //! The pairs of each node and their number (document 02, K4), against a search through every two live nodes: every node of every set of
-//! the small codes, and of many sets of the others. A pair's blocks make the node's, a step takes the pair, and round 1 of a plan repairs
-//! the missing nodes that have one, each from the pair that is given.
+//! the small codes, and of many sets of the others. A pair's blocks make the node's, and a step takes the pair. The missing nodes that
+//! have one are those of wave 1, each from the pair that is given; round 1 of a plan repairs the first of them so, and no others but
+//! some of them.
 use compare::boxes::{block_at, missing_nodes};
 use compare::calls;
 use compare::library;
-use compare::live_sets::{LiveSets, SETS_OF_SMALL, is_small};
+use compare::live_sets::{CHOICES, LiveSets, OTHER_CODES, SETS_OF_SMALL, is_small, small_sets};
 use compare::pairs::most_pairs;
 use compare::papers::{Code, code, every_code, xor_into};
-use compare::planner;
+use compare::planner::{self, Step};
 use compare::random::Random;
-use compare::samples::{
-    Shape, any_session, nodes_in, shapes, sound_session, with_each_mark, wrong_number,
-};
+use compare::samples::{Shape, any_session, shapes, sound_session, with_each_mark, wrong_number};
 use compare::tally::{Tally, repeat};
-use mogtriz::PLAN_ROOM;
 use mogtriz::raw::{PairsFound, Session};
 use std::collections::BTreeMap;
 
@@ -123,19 +121,25 @@ impl Case<'_> {
         assert!(nodes == self.blocks, "{triple:?} {:?}", self.session);
     }
 
-    /// Round 1 repairs the missing nodes that have a pair, from that pair, and no other node.
+    /// Wave 1 repairs the missing nodes that have a pair, from that pair, and no other node. Round 1 repairs the first of them so, and
+    /// some of the others, as a node is read once.
     fn compare_plan(&self, found: &[(u8, PairsFound)]) {
-        let mut steps = vec![0; PLAN_ROOM];
-        let plan = library::plan(self.session, &mut steps);
-        assert_eq!(plan.refusal, 0, "{:?}", self.session);
-        let steps = steps[..4 * plan.steps].chunks_exact(4);
-        let first = steps.filter(|step| step[0] == 1).map(|step| &step[1..]);
-        let wanted = found.iter().filter_map(|(node, found)| {
+        let with_pair = found.iter().filter_map(|(node, found)| {
             let [smaller, larger] = pair_of(found);
-            let repaired = !self.is_live(*node) && found.count > 0;
-            repaired.then_some([*node, smaller, larger])
+            let can_be_had = !self.is_live(*node) && found.count > 0;
+            can_be_had.then_some([1, *node, smaller, larger])
         });
-        assert!(first.eq(wanted), "{:?}", self.session);
+        let with_pair: Vec<Step> = with_pair.collect();
+        let in_waves = planner::waves_of(&self.session).steps;
+        let of_wave_1 = in_waves.iter().filter(|step| step[0] == 1);
+        assert!(of_wave_1.eq(&with_pair), "{:?}", self.session);
+        let (steps, plan) = library::planned(self.session);
+        assert_eq!(plan.refusal, 0, "{:?}", self.session);
+        assert_eq!(steps.first(), with_pair.first(), "{:?}", self.session);
+        for step in steps.iter().filter(|step| step[0] == 1) {
+            let has_pair = with_pair.iter().any(|with_pair| with_pair[1] == step[1]);
+            assert!(has_pair, "{step:?} {:?}", self.session);
+        }
     }
 
     /// After a run no missing node has a pair; gives how many are missing.
@@ -191,30 +195,11 @@ fn compare_set(code: &Code, live: &[u8], random: &mut Random, seen: &mut Seen) {
 fn pairs_are_counted_in_every_set_of_the_small_codes() {
     let random = &mut Random::seeded();
     let mut seen = Seen::default();
-    for code in every_code().iter().filter(|code| is_small(code)) {
-        for bits in 0..1 << code.n() {
-            compare_set(code, &nodes_in(bits), random, &mut seen);
-        }
-    }
+    small_sets(|code, live| compare_set(code, &live, random, &mut seen));
     // of the tetrahedron
     seen.report("the small codes", 6);
     assert_eq!(seen.sets, SETS_OF_SMALL);
 }
-
-/// A way to choose a set.
-type Choice = fn(LiveSets, &mut Random) -> Vec<u8>;
-
-const CHOICES: [Choice; 9] = [
-    LiveSets::about_k,
-    LiveSets::chain,
-    LiveSets::tree,
-    LiveSets::broken,
-    LiveSets::of_low_rank,
-    LiveSets::flat,
-    LiveSets::few_lost,
-    LiveSets::many_lost,
-    LiveSets::any,
-];
 
 /// How many sets of each other code are chosen in each way.
 const TIMES: usize = 10;
@@ -242,7 +227,7 @@ fn pairs_are_counted_in_sets_of_the_other_codes() {
     }
     // of simplex 8
     seen.report("the other codes", 127);
-    assert!(seen.sets >= 23 * CHOICES.len() * TIMES);
+    assert!(seen.sets >= OTHER_CODES * CHOICES.len() * TIMES);
 }
 
 /// The numbers of the request, and the same for a node that alone is missing: it is in none of its pairs.

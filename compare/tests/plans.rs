@@ -7,9 +7,9 @@ use compare::open::{open_by_differences, open_nodes};
 use compare::papers::every_code;
 use compare::random::Random;
 use compare::samples::{Shape, nodes_in};
-use compare::waves::most_waves;
 use compare::{calls, library};
 use mogtriz::raw::{self, Repairs, Session};
+use std::collections::BTreeMap;
 
 /// What the sets came to.
 #[derive(Default)]
@@ -19,25 +19,22 @@ struct Seen {
     with_open: usize,
     one_short: usize,
     read_out: usize,
-    rounds: [usize; 8],
+    rounds: BTreeMap<usize, usize>,
 }
 
 impl Seen {
-    /// Prints the counts. Every number of rounds up to the most has to occur and none above it, and sets
-    /// with open nodes and without.
-    fn report(&self, kind: &str, most_rounds: usize) {
+    /// Prints the counts. Every number of rounds up to so many has to occur, and sets with open nodes and without.
+    fn report(&self, kind: &str, rounds: usize) {
         let Seen { sets, about_k, .. } = self;
         let mut text = format!("{sets} sets of {kind}, {about_k} of about k nodes\n");
         text += &format!("{} had open nodes\n", self.with_open);
         text += &format!("{} objects were read out after a run\n", self.read_out);
         text += &format!("{} plans had one byte too few\n", self.one_short);
-        for (rounds, count) in self.rounds.iter().enumerate() {
+        for (rounds, count) in &self.rounds {
             text += &format!("{count} took {rounds} rounds\n");
         }
         println!("{text}");
-        for (rounds, &count) in self.rounds.iter().enumerate() {
-            assert_eq!(count > 0, rounds <= most_rounds, "{rounds} rounds");
-        }
+        assert!((0..=rounds).all(|rounds| self.rounds.contains_key(&rounds)));
         assert!(self.with_open > 0 && self.with_open < self.sets);
         assert!(self.one_short > 0 && self.read_out > 0);
     }
@@ -59,7 +56,7 @@ fn compare_set(family: usize, k: usize, live: &[u8], random: &mut Random, seen: 
     assert_eq!(started.refusal, 0, "{shape:?} {live:?}");
     let open = open_nodes(family, k, live);
     let plan = compare_plan(started.session, random, seen);
-    assert!(plan.rounds <= most_waves(k), "{shape:?} {live:?}");
+    assert!(plan.rounds <= plan.steps, "{shape:?} {live:?}");
     let mut nodes = random.bytes(shape.nodes_len());
     let run = calls::run(started.session, &mut nodes);
     compare_counts(&plan, &run, &open);
@@ -67,7 +64,7 @@ fn compare_set(family: usize, k: usize, live: &[u8], random: &mut Random, seen: 
     seen.sets += 1;
     seen.about_k += usize::from(live.len().abs_diff(k) <= 2);
     seen.with_open += usize::from(!open.is_empty());
-    seen.rounds[plan.rounds] += 1;
+    *seen.rounds.entry(plan.rounds).or_default() += 1;
 }
 
 /// The plan into room for more than its steps, for just them, and for one byte less, which gives 6.
@@ -142,8 +139,7 @@ fn every_set_of_the_small_codes_is_planned_and_run() {
         }
     }
     assert_eq!(seen.sets, SETS_OF_SMALL);
-    // k is at most 4
-    seen.report("the small codes", most_waves(4));
+    seen.report("the small codes", 5);
 }
 
 /// A way to choose a set.
@@ -180,8 +176,7 @@ fn sets_of_the_other_codes_are_planned_and_run() {
     }
     assert!(seen.sets >= 20_000, "{} sets", seen.sets);
     assert!(2 * seen.about_k >= seen.sets, "{} of about k", seen.about_k);
-    // k is at most 22
-    seen.report("the other codes", most_waves(22));
+    seen.report("the other codes", 11);
 }
 
 #[test]

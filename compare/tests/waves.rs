@@ -1,195 +1,175 @@
-//! The round of each node in plans against the wave in which it returns by the columns alone, and how many rounds there are at most at
-//! a k (document 02, K9): every set of the small codes, and many of the others. A run has its plan's counts, and leaves the nodes that
-//! do not return.
+//! The wave of each node, as repairs by pairs have it, against the one in which it returns by the columns alone, and how many waves
+//! there are at most at a k (document 02, K9): every set of the small codes, and many of the others. The library's plans leave the nodes
+//! that waves leave, and have each other missing node once, in its wave or in a later round (K11). A run has its plan's counts.
 use compare::boxes::missing_nodes;
 use compare::library;
-use compare::live_sets::{LiveSets, SETS_OF_SMALL, is_small};
+use compare::live_sets::{CHOICES, LiveSets, OTHER_CODES, SETS_OF_SMALL, other_sets, small_sets};
 use compare::papers::{Code, FAMILIES, every_code};
+use compare::planner::{Step, waves_of};
 use compare::random::Random;
-use compare::samples::nodes_in;
 use compare::waves::{fewest, fewest_by_choices, most_waves, waves};
-use mogtriz::PLAN_ROOM;
 use mogtriz::raw::{self, MARKS, Repairs, Session};
 use std::collections::BTreeMap;
 
-/// What the library planned.
+/// What the sets came to.
 #[derive(Default)]
 struct Seen {
     sets: usize,
-    /// By round, how many nodes it repairs.
+    /// By wave, how many nodes return in it.
     repaired: BTreeMap<usize, usize>,
+    /// Nodes that a plan repairs in the round of their wave's number, and in a later one.
+    in_time: usize,
+    later: usize,
     left: usize,
-    /// By family and k, the most rounds of a plan.
-    most: BTreeMap<(usize, usize), usize>,
+    /// By family and k, the most waves of a set and the most rounds of its plan.
+    most: BTreeMap<(usize, usize), [usize; 2]>,
 }
 
 impl Seen {
-    fn add(&mut self, code: &Code, plan: &Plan) {
+    fn add(&mut self, code: &Code, expected: &Expected, (steps, plan): &(Vec<Step>, Repairs)) {
         self.sets += 1;
-        for &round in plan.rounds_by_node().iter().flatten() {
-            *self.repaired.entry(round).or_default() += 1;
+        let rounds = rounds_by_node(steps);
+        for (node, wave) in expected.repaired() {
+            *self.repaired.entry(wave).or_default() += 1;
+            match rounds[node] == [wave] {
+                true => self.in_time += 1,
+                false => self.later += 1,
+            }
         }
-        self.left += plan.answer.left;
+        self.left += expected.left.len();
         let most = self.most.entry((code.family, code.k)).or_default();
-        *most = plan.answer.rounds.max(*most);
+        let here = [expected.last(), plan.rounds];
+        *most = [0, 1].map(|i| here[i].max(most[i]));
     }
 
-    /// Prints the counts. Nodes have to be repaired in every round up to the most and in none above it, and some plan of each of so
-    /// many codes has to have as many rounds as there are waves at its k.
-    fn report(&self, kind: &str, codes: usize, most_rounds: usize) {
+    /// Prints the counts. Nodes have to return in every wave up to the most and in none above it, some set of each of so many codes
+    /// has to have as many waves as there are at its k, and some nodes have to wait for a later round.
+    fn report(&self, kind: &str, codes: usize, most: usize) {
         let mut text = format!("{} sets of {kind}\n", self.sets);
-        for (round, count) in &self.repaired {
-            text += &format!("{count} nodes were repaired in round {round}\n");
+        for (wave, count) in &self.repaired {
+            text += &format!("{count} nodes returned in wave {wave}\n");
         }
+        let Seen { in_time, later, .. } = self;
+        text += &format!("{in_time} were planned for the round of that number, {later} later\n");
         text += &format!("{} nodes were left\n", self.left);
         text += &FAMILIES.map(|family| self.most_of(family)).concat();
         println!("{text}");
-        assert!(self.repaired.keys().copied().eq(1..=most_rounds));
+        assert!(self.repaired.keys().copied().eq(1..=most));
         assert_eq!(self.most.len(), codes);
-        for (&(family, k), &rounds) in &self.most {
-            assert_eq!(rounds, most_waves(k), "family {family} k {k}");
+        for (&(family, k), &[waves, _]) in &self.most {
+            assert_eq!(waves, most_waves(k), "family {family} k {k}");
         }
+        assert!(*in_time > 0 && *later > 0);
     }
 
-    /// A line with each k and its most rounds, for a family that was seen.
+    /// A line with each k, its most waves and its most rounds, for a family that was seen.
     fn most_of(&self, family: usize) -> String {
         let of_family = self.most.iter().filter(|((other, _), _)| *other == family);
-        let each = of_family.map(|((_, k), rounds)| format!(" {k}:{rounds}"));
+        let each = of_family.map(|((_, k), [waves, rounds])| format!(" {k}:{waves},{rounds}"));
         match each.collect::<String>() {
             none if none.is_empty() => none,
-            each => format!("family {family}, k and the most rounds:{each}\n"),
+            each => format!("family {family}, k, the most waves and the most rounds:{each}\n"),
         }
     }
 }
 
-/// A plan as the library gives it.
-#[derive(PartialEq, Debug)]
-struct Plan {
-    steps: Vec<u8>,
-    answer: Repairs,
+/// By node number, the rounds of all steps that repair the node.
+fn rounds_by_node(steps: &[Step]) -> Vec<Vec<usize>> {
+    let mut rounds = vec![Vec::new(); MARKS];
+    for &[round, node, ..] in steps {
+        rounds[usize::from(node)].push(round.into());
+    }
+    rounds
 }
 
-impl Plan {
-    /// By the package, and the same from C.
-    fn of(session: Session) -> Plan {
-        let [plan, again] = [library::plan, raw::plan].map(|plan| {
-            let mut steps = vec![0; PLAN_ROOM];
-            let answer = plan(session, &mut steps);
-            steps.truncate(4 * answer.steps);
-            Plan { steps, answer }
-        });
-        assert_eq!(plan, again);
-        plan
-    }
-
-    /// By node number, the rounds of all steps that repair the node.
-    fn rounds_by_node(&self) -> Vec<Vec<usize>> {
-        let mut rounds = vec![Vec::new(); MARKS];
-        for step in self.steps.chunks_exact(4) {
-            let [round, node] = [step[0], step[1]].map(usize::from);
-            rounds[node].push(round);
-        }
-        rounds
-    }
-}
-
-/// What a set's plan has to be by the waves.
+/// What is to come of a set by the columns alone.
 struct Expected {
-    /// By node number, the rounds of its steps: one step, in its wave, for a missing node that returns.
-    rounds: Vec<Vec<usize>>,
+    /// By node number, the wave of a missing node that returns.
+    waves: Vec<Option<usize>>,
     /// The nodes that do not return.
     left: Vec<u8>,
 }
 
 impl Expected {
     fn of(code: &Code, live: &[u8]) -> Expected {
-        let mut rounds = vec![Vec::new(); MARKS];
+        let mut waves_by_node = vec![None; MARKS];
         let mut left = Vec::new();
         for (node, wave) in (1..=255).zip(waves(code.family, code.k, live)) {
             assert_eq!(wave == Some(0), live.contains(&node), "{live:?}");
             match wave {
                 Some(0) => {}
-                Some(wave) => rounds[usize::from(node)].push(wave),
+                Some(wave) => waves_by_node[usize::from(node)] = Some(wave),
                 None => left.push(node),
             }
         }
-        Expected { rounds, left }
+        Expected {
+            waves: waves_by_node,
+            left,
+        }
     }
 
-    /// The refusal, the steps, the rounds and how many nodes are left.
-    fn counts(&self) -> [usize; 4] {
-        let waves = || self.rounds.iter().flatten().copied();
-        let last = waves().max().unwrap_or(0);
-        [0, waves().count(), last, self.left.len()]
+    /// The missing nodes that return, each with its wave.
+    fn repaired(&self) -> impl Iterator<Item = (usize, usize)> {
+        let waves = self.waves.iter().enumerate();
+        waves.filter_map(|(node, wave)| Some((node, (*wave)?)))
+    }
+
+    /// How many waves there are.
+    fn last(&self) -> usize {
+        self.repaired().map(|(_, wave)| wave).max().unwrap_or(0)
     }
 }
 
-fn counts(answer: &Repairs) -> [usize; 4] {
-    let refusal = answer.refusal.into();
-    [refusal, answer.steps, answer.rounds, answer.left]
+/// Repairs by pairs have each node in its wave, and leave those that do not return.
+fn compare_waves(expected: &Expected, session: &Session, place: &str) {
+    let plan = waves_of(session);
+    let rounds = rounds_by_node(&plan.steps);
+    for (node, rounds) in rounds.iter().enumerate() {
+        let wave = Vec::from_iter(expected.waves[node]);
+        assert_eq!(*rounds, wave, "node {node}, {place}");
+    }
+    assert_eq!(plan.rounds, expected.last(), "{place}");
+    assert_eq!(missing_nodes(&plan.session), expected.left, "{place}");
 }
 
-/// Plans and runs a set.
+/// A plan repairs each node that returns once, in its wave or in a later round, and no other node.
+fn compare_plan(expected: &Expected, (steps, plan): &(Vec<Step>, Repairs), place: &str) {
+    for (node, rounds) in rounds_by_node(steps).iter().enumerate() {
+        let as_wanted = match (expected.waves[node], &rounds[..]) {
+            (Some(wave), [round]) => wave <= *round,
+            (wave, rounds) => wave.is_none() && rounds.is_empty(),
+        };
+        assert!(as_wanted, "node {node} in {rounds:?}, {place}");
+    }
+    assert!(expected.last() <= plan.rounds, "{place}");
+    assert!(plan.rounds <= plan.steps, "{place}");
+    let counts = [plan.refusal.into(), plan.steps, plan.left];
+    let wanted = [0, expected.repaired().count(), expected.left.len()];
+    assert_eq!(counts, wanted, "{place}");
+}
+
+/// Takes a set in waves, and plans and runs it.
 fn compare_set(code: &Code, live: &[u8], seen: &mut Seen) {
     let (family, k) = (code.family, code.k);
     let place = format!("family {family} k {k} {live:?}");
     let started = library::start(family, k, 1, live);
     assert_eq!(started.refusal, 0, "{place}");
-    let plan = Plan::of(started.session);
-    let rounds = plan.answer.rounds;
-    assert!(rounds <= most_waves(k), "{rounds} rounds, {place}");
     let expected = Expected::of(code, live);
-    for (node, rounds) in plan.rounds_by_node().iter().enumerate() {
-        assert_eq!(*rounds, expected.rounds[node], "node {node}, {place}");
-    }
-    assert_eq!(counts(&plan.answer), expected.counts(), "{place}");
+    assert!(expected.last() <= most_waves(k), "{place}");
+    compare_waves(&expected, &started.session, &place);
+    let planned = library::planned(started.session);
+    compare_plan(&expected, &planned, &place);
     for run in [library::run, raw::run] {
         let run = run(started.session, &mut vec![0x5a; code.n()]);
-        assert_eq!(counts(&run), expected.counts(), "{place}");
         assert_eq!(missing_nodes(&run.session), expected.left, "{place}");
+        let session = started.session;
+        assert_eq!(Repairs { session, ..run }, planned.1, "{place}");
     }
-    seen.add(code, &plan);
+    seen.add(code, &expected, &planned);
 }
-
-/// Every set of the small codes.
-fn small_sets(mut visit: impl FnMut(&Code, Vec<u8>)) {
-    for code in every_code().iter().filter(|code| is_small(code)) {
-        for bits in 0..1 << code.n() {
-            visit(code, nodes_in(bits));
-        }
-    }
-}
-
-/// A way to choose a set.
-type Choice = fn(LiveSets, &mut Random) -> Vec<u8>;
-
-const CHOICES: [Choice; 9] = [
-    LiveSets::about_k,
-    LiveSets::chain,
-    LiveSets::tree,
-    LiveSets::broken,
-    LiveSets::of_low_rank,
-    LiveSets::flat,
-    LiveSets::few_lost,
-    LiveSets::many_lost,
-    LiveSets::any,
-];
 
 /// How many sets of each other code are chosen in each way.
 const TIMES: usize = 10;
-
-/// Sets of the other codes.
-fn other_sets(mut visit: impl FnMut(&Code, Vec<u8>)) {
-    let mut random = Random::seeded();
-    for code in every_code().iter().filter(|code| !is_small(code)) {
-        let (family, k) = (code.family, code.k);
-        for choose in CHOICES {
-            for _ in 0..TIMES {
-                visit(code, choose(LiveSets { family, k }, &mut random));
-            }
-        }
-    }
-}
 
 #[test]
 fn nodes_of_the_small_codes_return_in_their_waves() {
@@ -203,9 +183,9 @@ fn nodes_of_the_small_codes_return_in_their_waves() {
 #[test]
 fn nodes_of_the_other_codes_return_in_their_waves() {
     let mut seen = Seen::default();
-    other_sets(|code, live| compare_set(code, &live, &mut seen));
-    seen.report("the other codes", 23, most_waves(22));
-    assert_eq!(seen.sets, 23 * CHOICES.len() * TIMES);
+    other_sets(TIMES, |code, live| compare_set(code, &live, &mut seen));
+    seen.report("the other codes", OTHER_CODES, most_waves(22));
+    assert_eq!(seen.sets, OTHER_CODES * CHOICES.len() * TIMES);
     assert!(seen.left > 0);
 }
 
@@ -222,7 +202,7 @@ fn slowest(code: &Code, random: &mut Random) -> Vec<u8> {
 }
 
 #[test]
-fn every_code_takes_as_many_rounds_as_it_may() {
+fn every_code_takes_as_many_waves_as_it_may() {
     let mut random = Random::seeded();
     let mut seen = Seen::default();
     for code in &every_code() {
@@ -248,7 +228,7 @@ fn breadth_first_finds_the_fewest_nodes() {
         }
     };
     small_sets(|code, live| compare(code, &live));
-    other_sets(|code, mut live| {
+    other_sets(TIMES, |code, mut live| {
         live.truncate(FEW);
         compare(code, &live);
     });

@@ -32,12 +32,13 @@ const CASES: [Case; 3] = [
     },
 ];
 
-const WIDTH: f64 = 900.0;
+const WIDTH: f64 = 1040.0;
 const HEIGHT: f64 = 610.0;
 const TOP: f64 = 92.0;
 const NODE_HEIGHT: f64 = 32.0;
-const ROUND_WIDTH: f64 = 80.0;
+const ROUND_WIDTH: f64 = 64.0;
 const LABEL_WIDTH: f64 = 74.0;
+const LEGEND_HEIGHT: f64 = 28.0;
 const RADIUS: f64 = 11.5;
 const GREY: &str = "#555555";
 
@@ -56,7 +57,7 @@ const MISSING: Look = Look {
 };
 
 /// At the start, then by round.
-const LIVE: [Look; 4] = [
+const LIVE: [Look; 5] = [
     Look {
         fill: "#111111",
         edge: "#111111",
@@ -75,6 +76,11 @@ const LIVE: [Look; 4] = [
     Look {
         fill: "#c9efc4",
         edge: "#2f7d32",
+        number: "#111111",
+    },
+    Look {
+        fill: "#b07cc6",
+        edge: "#6b3a80",
         number: "#111111",
     },
 ];
@@ -180,22 +186,23 @@ fn circle(drawing: &mut Drawing, centre: Point, look: Look, number: &str) {
 }
 
 fn legend(drawing: &mut Drawing, corner: Point) {
-    let words = [
-        (LIVE[0], "live at the start"),
-        (LIVE[1], "repaired in round 1"),
-        (LIVE[2], "repaired in round 2"),
-        (LIVE[3], "repaired in round 3"),
-        (MISSING, "missing"),
-    ];
-    for (i, (look, word)) in words.into_iter().enumerate() {
-        let middle = at(corner.x + RADIUS, corner.y + 28.0 * i as f64);
+    let word = |round: usize| match round {
+        0 => "live at the start".to_string(),
+        _ => format!("repaired in round {round}"),
+    };
+    let live = LIVE.into_iter().zip((0..).map(word));
+    let words = live.chain([(MISSING, "missing".to_string())]);
+    let mut height = 0.0;
+    for (look, word) in words {
+        let middle = at(corner.x + RADIUS, corner.y + height);
         circle(drawing, middle, look, "");
         let kind = Type::new(13.0, Anchor::Start);
-        drawing.text(at(middle.x + 20.0, middle.y + 4.5), word, kind);
+        drawing.text(at(middle.x + 20.0, middle.y + 4.5), &word, kind);
+        height += LEGEND_HEIGHT;
     }
     let note = ["A line leads from a repaired node", "to each of its pair."];
     for (i, line) in note.into_iter().enumerate() {
-        let place = at(corner.x, corner.y + 150.0 + 17.0 * i as f64);
+        let place = at(corner.x, corner.y + height + 10.0 + 17.0 * i as f64);
         drawing.text(place, line, Type::new(13.0, Anchor::Start));
     }
 }

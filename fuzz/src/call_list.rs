@@ -8,7 +8,8 @@ use compare::boxes::{self, HEAD, box_len, live_nodes, missing_nodes};
 use compare::calls;
 use compare::open::open_nodes;
 use compare::papers::MOST_LENGTH;
-use compare::planner::{pairs, plan_of};
+use compare::planner::{self, pairs, plan_of, waves_of};
+use compare::rounds;
 use compare::waves::{most_waves, waves};
 use mogtriz::raw::{MARKS, Repairs, Session};
 
@@ -162,20 +163,37 @@ impl List {
         }
     }
 
-    /// There are no more rounds than K9 allows. Up to k 8, where few numbers have k digits, each node returns in its wave.
+    /// The plan is as K11 says, step by step. There are no more waves than K9 allows, and as many rounds as waves or more.
     fn compare_rounds(&self, plan: &Repairs) {
+        let steps = plan_of(&self.session).steps;
+        let checked = rounds::check(&self.session, &steps, plan.rounds);
+        assert_eq!(checked, Ok(()), "{:?}", self.session);
+        let in_waves = waves_of(&self.session);
+        let most = most_waves(self.session.k).min(plan.rounds);
+        assert!(in_waves.rounds <= most, "{:?}", self.session);
+        // above, too many numbers have k digits
+        if self.session.k <= 8 {
+            self.compare_waves(&in_waves.steps, &steps);
+        }
+    }
+
+    /// Each node returns in the wave that the columns give, and is planned for that round or a later one; the others are left.
+    fn compare_waves(&self, in_waves: &[planner::Step], in_rounds: &[planner::Step]) {
         let Session { family, k, .. } = self.session;
-        assert!(plan.rounds <= most_waves(k), "{:?}", self.session);
-        if k > 8 {
-            return;
+        let live = live_nodes(&self.session);
+        let waves = waves(family, k, &live);
+        for steps in [in_waves, in_rounds] {
+            let returned = waves.iter().flatten().count();
+            assert_eq!(live.len() + steps.len(), returned, "{:?}", self.session);
         }
-        let waves = waves(family, k, &live_nodes(&self.session));
-        for [round, node, ..] in plan_of(&self.session).steps {
-            let wave = waves[usize::from(node) - 1];
-            assert_eq!(wave, Some(round.into()), "{:?}", self.session);
+        let wave_of = |node: u8| waves[usize::from(node) - 1];
+        for &[wave, node, ..] in in_waves {
+            assert_eq!(wave_of(node), Some(wave.into()), "{:?}", self.session);
         }
-        let left = waves.iter().filter(|wave| wave.is_none()).count();
-        assert_eq!(left, plan.left, "{:?}", self.session);
+        for &[round, node, ..] in in_rounds {
+            let in_time = wave_of(node).is_some_and(|wave| wave <= round.into());
+            assert!(in_time, "node {node} {:?}", self.session);
+        }
     }
 
     fn write(&mut self, input: &mut Input) {

@@ -1,6 +1,6 @@
 //! The example of examples/repair.c in Rust; both print the same lines. An object is stored as a box that keeps three of its
-//! seven nodes, the others are planned and repaired, the reads that this took and the pairs of the node that was read most are
-//! printed, and all seven are put away and the object read out.
+//! seven nodes, the others are planned and repaired, the reads that this took and the pairs of one of the nodes are printed, and all
+//! seven are put away and the object read out.
 use mogtriz::{Pairs, Refusal, SIMPLEX, Session, Step};
 
 const K: usize = 3;

@@ -31,7 +31,7 @@
 //! }
 //! let mut session = Session::start(SIMPLEX, 3, 4, &[4, 5, 7])?;
 //! let repairs = session.run(&mut nodes)?;
-//! assert_eq!((repairs.steps, repairs.rounds, repairs.left), (4, 2, 0));
+//! assert_eq!((repairs.steps, repairs.rounds, repairs.left), (4, 4, 0));
 //!
 //! // the object is read out of the nodes
 //! assert_eq!(session.read_out_to_vec(&nodes)?, object);

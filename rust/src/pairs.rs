@@ -22,8 +22,9 @@ pub struct Pairs {
 impl Session {
     /// The pairs of live nodes that a node can be had from, whether it is live or missing: the least one, and how many there are.
     ///
-    /// A live node can be read as the XOR of a pair's blocks while its own drive rests. Of the missing nodes, those with a pair are
-    /// repaired in round 1 of a [`plan`](Session::plan), each from the pair given here, and no others are.
+    /// A live node can be read as the XOR of a pair's blocks while its own drive rests. Round 1 of a [`plan`](Session::plan) repairs no
+    /// missing node but those with a pair. It repairs the first of them from the pair given here; a later one may get another pair
+    /// or have to wait, as a node is read once in a round.
     ///
     /// # Errors
     ///

@@ -32,8 +32,8 @@ impl Step {
     /// A step from its four bytes in a plan: round, node, smaller, larger.
     ///
     /// ```
-    /// let step = mogtriz::Step::from_bytes([2, 6, 1, 7]);
-    /// assert_eq!((step.round, step.node, step.pair), (2, 6, [1, 7]));
+    /// let step = mogtriz::Step::from_bytes([4, 6, 1, 7]);
+    /// assert_eq!((step.round, step.node, step.pair), (4, 6, [1, 7]));
     /// ```
     #[must_use]
     pub fn from_bytes(bytes: [u8; 4]) -> Step {
@@ -52,7 +52,7 @@ impl Step {
 /// let session = mogtriz::Session::start(mogtriz::SIMPLEX, 3, 1, &[4, 5, 7])?;
 /// let mut out = [0; mogtriz::PLAN_ROOM];
 /// let plan = session.plan(&mut out)?;
-/// assert_eq!((plan.repairs.steps, plan.repairs.rounds, plan.repairs.left), (4, 2, 0));
+/// assert_eq!((plan.repairs.steps, plan.repairs.rounds, plan.repairs.left), (4, 4, 0));
 /// assert!(plan.steps().map(|step| step.node).eq([1, 2, 3, 6]));
 /// # Ok::<(), mogtriz::Refusal>(())
 /// ```

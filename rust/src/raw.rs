@@ -4,7 +4,7 @@
 use core::fmt;
 
 /// `MOGTRIZ_VERSION` of the header that this is declared from.
-pub const VERSION: usize = 5;
+pub const VERSION: usize = 6;
 
 /// How many marks a session holds, by node number, and how many counts of reads.
 pub const MARKS: usize = 256;

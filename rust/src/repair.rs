@@ -14,7 +14,7 @@ use crate::{Plan, Refusal, Session, raw};
 pub struct Repairs {
     /// How many nodes are repaired.
     pub steps: usize,
-    /// In how many rounds: at most 1 for k = 2, 2 for 3 and 4, 3 for 5 to 8, 4 for 9 to 16, 5 for 17 to 22.
+    /// In how many rounds: each repairs a node or more, so that there are at most as many as steps.
     pub rounds: usize,
     /// How many nodes are missing once all steps are made: those at which two objects alike on all live nodes can
     /// differ. They are no refusal. After a run [`missing_nodes`](Session::missing_nodes) says which they are.
@@ -59,10 +59,14 @@ impl Session {
         Ok(())
     }
 
-    /// The repairs to make, in rounds from 1. In a round every missing node with a related pair, both live when the
-    /// round began, is repaired from the pair whose smaller number is least; it serves from the next round on. The round that
-    /// repairs a node is the least r for which its column is the XOR of the columns of at most 2^r nodes that are live when
-    /// round 1 begins; a node that is left has no such r.
+    /// The repairs to make, in rounds from 1. In a round no node is read twice: missing nodes are taken by rising number, each with
+    /// its least related pair of which both were live when the round began and neither was read in that round; a node without one
+    /// waits. Least is the pair whose smaller number is least. A node that is repaired serves from the next round on.
+    ///
+    /// Waves are what rounds would be if a node could be read by any number of repairs in one. A node returns in the least wave r for
+    /// which its column is the XOR of the columns of at most 2^r nodes that are live when round 1 begins; a node that is left has no
+    /// such r. There are no more waves than 1 for k = 2, 2 for 3 and 4, 3 for 5 to 8, 4 for 9 to 16, 5 for 17 to 22. A plan leaves
+    /// the nodes that waves leave, and has as many rounds as there are waves, or more.
     ///
     /// It takes a destination, for which [`PLAN_ROOM`](crate::PLAN_ROOM) bytes are always enough: each step is written to
     /// it as four bytes, and what lies beyond the steps is not written. It gives the [`Plan`] in it. Where nodes are left
@@ -80,7 +84,7 @@ impl Session {
     /// let session = Session::start(SIMPLEX, 3, 1, &[4, 5, 7])?;
     /// let mut out = [0; mogtriz::PLAN_ROOM];
     /// let plan = session.plan(&mut out)?;
-    /// let steps = [[1, 1, 4, 5], [1, 2, 5, 7], [1, 3, 4, 7], [2, 6, 1, 7]];
+    /// let steps = [[1, 1, 4, 5], [2, 2, 5, 7], [3, 3, 1, 2], [4, 6, 1, 7]];
     /// assert_eq!(plan.bytes(), steps.as_flattened());
     ///
     /// assert_eq!(session.plan(&mut [0; 15]), Err(Refusal::BufferLength));
@@ -110,7 +114,7 @@ impl Session {
     /// let mut nodes = [0, 0, 0, 4, 5, 0, 7];
     /// let repairs = session.run(&mut nodes)?;
     /// assert_eq!(nodes, [1, 2, 3, 4, 5, 6, 7]);
-    /// assert_eq!((repairs.steps, repairs.rounds, repairs.left), (4, 2, 0));
+    /// assert_eq!((repairs.steps, repairs.rounds, repairs.left), (4, 4, 0));
     /// assert_eq!((session.steps(), session.missing_nodes().count()), (4, 0));
     /// # Ok::<(), mogtriz::Refusal>(())
     /// ```

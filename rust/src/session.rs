@@ -213,10 +213,10 @@ impl Session {
     /// ```
     /// let mut session = mogtriz::Session::start(mogtriz::SIMPLEX, 3, 1, &[4, 5, 7])?;
     /// let mut nodes = [0, 0, 0, 4, 5, 0, 7];
-    /// // nodes 1, 2, 3 and 6 are made from 4 and 5, 5 and 7, 4 and 7, and 1 and 7
+    /// // nodes 1, 2, 3 and 6 are made from 4 and 5, 5 and 7, 1 and 2, and 1 and 7
     /// session.run(&mut nodes)?;
     /// session.read_out(&nodes, &mut [0; 3])?;
-    /// assert_eq!(session.reads()[..8], [0, 1, 0, 0, 2, 2, 0, 3]);
+    /// assert_eq!(session.reads()[..8], [0, 2, 1, 0, 1, 2, 0, 2]);
     /// # Ok::<(), mogtriz::Refusal>(())
     /// ```
     #[must_use]

@@ -4,7 +4,7 @@ use crate::raw;
 /// The version that this package is made for, raised when a layout or an answer of the library changes.
 ///
 /// ```
-/// assert_eq!(mogtriz::VERSION, 5);
+/// assert_eq!(mogtriz::VERSION, 6);
 /// ```
 pub const VERSION: usize = raw::VERSION;
 

@@ -55,7 +55,7 @@ fn store_and_repair() -> Result<(), Refusal> {
     assert!(plan.steps().map(|step| step.node).eq([1, 2, 3, 6]));
     assert!(session.pairs(1)?.least == Some([4, 5]) && session.pairs(6)?.count == 0);
     assert!(session.run(&mut nodes)? == plan.repairs);
-    assert!(session.steps() == 4 && session.reads()[..8] == [0, 1, 0, 0, 2, 2, 0, 3]);
+    assert!(session.steps() == 4 && session.reads()[..8] == [0, 2, 1, 0, 1, 2, 0, 2]);
 
     let mut read_out = [0; 24];
     session.read_out(&nodes, &mut read_out)?;
