@@ -21,7 +21,7 @@ use Rattle.planning.specs.Claims.{CanMakeAll}
 use Rattle.planning.specs.Plan.{Step, RepairedIn, once, often, roundSteps, repairedNodes, marksAfter, roundsFrom, planOf, wavesOf, lastRound}
 use Rattle.planning.proofs.MakeLaws.{Within, once-shrinks, often-shrinks, length-marksAfter, left-few}
 use Rattle.planning.proofs.RepairedLaws.{LivePair}
-use Rattle.planning.proofs.FreeLaws.{free-within}
+use Rattle.planning.proofs.FreeLaws.{free-pair}
 use Rattle.planning.proofs.TurnLaws.{round-claims}
 use Rattle.planning.proofs.PlanLaws.{rounds-make, rounds-quiet}
 use Rattle.planning.proofs.RoundsLaws.{from-round, rounds-most}
@@ -81,13 +81,13 @@ module _ (f : Family) (k : ℕ) (range : KInRange f k) where
   unfolding afterWaves
   one-wave marks other size within r step h =
       let c = round-claims f k marks r range in
-      let p = c .pair step h in
+      let p = free-pair f k marks _ _ _ _ (c .pair step h) in
       waves-get f k range other size 0 (step .node) (c .missing step h .0)
       (record {
         one = step .smaller;
         other = step .larger;
-        one-live = record { node = p .smaller .node; live = within _ (free-within marks _ _ (p .smaller .live)) };
-        other-live = record { node = p .larger .node; live = within _ (free-within marks _ _ (p .larger .live)) };
+        one-live = record { node = p .smaller .node; live = within _ (p .smaller .live) };
+        other-live = record { node = p .larger .node; live = within _ (p .larger .live) };
         related = p .related;
       })
 

@@ -19,6 +19,7 @@ use Rattle.lists.specs.Lists.{isLive}
 use Rattle.lists.proofs.WithoutLaws.{unset-live}
 use Rattle.pairing.specs.declared.Pairs.{Pairs}
 use Rattle.pairing.specs.Pairs.{smallerNode}
+use Rattle.pairing.specs.Claims.{IsPair}
 use Rattle.pairing.proofs.PairLaws.{pair-of, pairs-are}
 use Rattle.planning.specs.Claims.{FreeClaim}
 use Rattle.planning.specs.Plan.{Step, stepOf, once, stepsFor, freeAfter, timesRead}
@@ -84,8 +85,18 @@ free-claim marks (step ∷ steps) i =
     let later = free-claim (once marks step) steps i in
     ((λ h. step-to marks step i (timesRead i steps) _ later h), (λ h. step-from marks step i (timesRead i steps) _ later h))
 
-pub free-within : (marks : List Bool) (steps : List Step) (i : ℕ) → isLive (freeAfter marks steps) i ≡ true → isLive marks i ≡ true
+free-within : (marks : List Bool) (steps : List Step) (i : ℕ) → isLive (freeAfter marks steps) i ≡ true → isLive marks i ≡ true
 free-within marks steps i h = free-claim marks steps i .0 h .0
+
+-- so that a pair that may be read is a pair
+pub free-pair : (f : Family) (k : ℕ) (marks : List Bool) (steps : List Step) (j a b : ℕ) → IsPair f k (freeAfter marks steps) j a b → IsPair f k marks j a b
+free-pair f k marks steps j a b p =
+    record {
+      order = p .order;
+      smaller = record { node = p .smaller .node; live = free-within marks steps a (p .smaller .live) };
+      larger = record { node = p .larger .node; live = free-within marks steps b (p .larger .live) };
+      related = p .related;
+    }
 
 -- ---- no node is read twice
 

@@ -4,12 +4,12 @@ pub mod RoundLaws
 pub mod SourceLaws
 pub mod RepairedLaws
 pub mod PlanLaws
-pub mod WaveLaws
 pub mod PlannedLaws
 pub mod FreeLaws
 pub mod WithLaws
 pub mod TurnLaws
 pub mod RoundsLaws
+pub mod WaveLaws
 pub mod AgainstWaves
 pub mod CarryLaws
 pub mod Proved

@@ -1,25 +1,29 @@
 -- The claims of specs/Claims.antt.
 -- Assumes nothing.
 use mathlib.Core.Path.{_≡_, ap}
-use mathlib.Core.Bool.{true}
-use Prim.Native.Nat.{ℕ}
+use mathlib.Core.Bool.{Bool, true, false}
+use mathlib.Core.List.{List, List·Memᴰ}
+use Prim.Native.Nat.{ℕ, _≤_}
 use native.Mathlib.Omega.{arith}
 use borrow.Author.Tests.{ne-eqb}
 use Rattle.base.proofs.Tests.{not-both}
-use Rattle.families.specs.Families.{nodeCount}
+use Rattle.families.specs.declared.Family.{Family}
+use Rattle.families.specs.Families.{KInRange, IsNode, nodeCount}
 use Rattle.families.proofs.Laws.{few}
 use Rattle.lists.specs.Lists.{isLive}
 use Rattle.counts.proofs.Laws.{sum-all}
+use Rattle.pairing.specs.Pairs.{pairCount}
 use Rattle.pairing.proofs.PairLaws.{smaller-some}
 use Rattle.pairing.proofs.NoneLaws.{count-some, some-count}
-use Rattle.planning.specs.Claims.{PlanClaim, PlanRoundsClaim, FirstWaveClaim, ReadsClaim, LiveReadsClaim}
-use Rattle.planning.specs.Plan.{Step, once, sourcesOf, timesRead, marksAfter, planOf, wavesOf, beforeRound}
+use Rattle.planning.specs.Claims.{PlanClaim, PlanRoundsClaim, FirstRoundClaim, FirstWaveClaim, ReadsClaim, LiveReadsClaim}
+use Rattle.planning.specs.Plan.{Step, once, roundSteps, sourcesOf, timesRead, marksAfter, planOf, wavesOf, beforeRound}
 use Rattle.planning.proofs.MakeLaws.{once-shrinks, make-counts, left-few, pair-repairs}
 use Rattle.planning.proofs.RepairedLaws.{repaired-pair}
 use Rattle.planning.proofs.WaveLaws.{afterWaves, Turn, turn-step, step-turn, first-step, waves-only, waves-get}
 use Rattle.planning.proofs.SourceLaws.{length-sources, sources-inside, reads-are, times-few}
-use Rattle.planning.proofs.TurnLaws.{round-claims}
-use Rattle.planning.proofs.RoundsLaws.{from-round, round-is, rounds-some, rounds-few, rounds-most}
+use Rattle.planning.proofs.FreeLaws.{free-pair}
+use Rattle.planning.proofs.TurnLaws.{round-claims, first-turn}
+use Rattle.planning.proofs.RoundsLaws.{from-round, first-steps, first-listed, round-is, rounds-some, rounds-few, rounds-most}
 use Rattle.planning.proofs.AgainstWaves.{same-marks, wave-first, waves-few}
 use Rattle.planning.proofs.PlanLaws.{rounds-end, rounds-make, rounds-quiet, rounds-enough}
 
@@ -50,6 +54,27 @@ plan-rounds-claim f k range marks size =
       waves = waves-few f k range marks size;
     }
 
+-- a node that round 1 repairs has a pair by the count
+module _ (f : Family) (k : ℕ) (range : KInRange f k) (marks : List Bool) where
+  first-counted : (step : Step) → List·Memᴰ step (roundSteps once f k marks 1) → IsNode f k (step .node) × (isLive marks (step .node) ≡ false) × (1 ≤ pairCount f k marks (step .node))
+  first-counted step h =
+      let c = round-claims f k marks 1 range in
+      let m = c .missing step h in
+      let p = free-pair f k marks _ _ _ _ (c .pair step h) in
+      (m .0, m .1, count-some f k marks (step .node) (smaller-some f k marks (step .node) range (m .0) (step .smaller) (step .larger) (p .smaller) (p .larger) (p .related)))
+
+pub first-round-claim : FirstRoundClaim
+unfolding planOf
+first-round-claim f k range marks =
+    record {
+      repaired = λ j h.
+          let step = first-steps once once-shrinks f k (nodeCount f k) 1 marks (h .step) (h .listed) (h .round) in
+          rw (h .node) at (first-counted f k range marks (h .step) step);
+      first = λ j n v c none.
+          first-listed once once-shrinks f k (nodeCount f k) 1 marks _ (omega (arith, n .first, n .last))
+          (first-turn f k marks 1 range j n v (some-count f k marks j c) (λ step h l. let q = first-counted f k range marks step h in omega (arith, none (step .node) (q .0) (q .1) l, q .2)));
+    }
+
 pub first-wave-claim : FirstWaveClaim
 unfolding wavesOf afterWaves
 first-wave-claim f k range marks size =
@@ -65,8 +90,8 @@ first-wave-claim f k range marks size =
             let p = repaired-pair f k range marks j (pair-repairs f k marks marks j (h .1) (some-count f k marks j (h .2))) in
             turn-step f k (nodeCount f k) 1 marks 0 j (omega (arith, h .0 .first, h .0 .last)) (record { node = h .0; missing = h .1; live = waves-get f k range marks size 0 j (h .0) p })),
       );
-      smaller = λ step h e. ap (λ (step : Step). step .smaller) (first-step f k range (nodeCount f k) 1 marks size step h e);
-      larger = λ step h e. ap (λ (step : Step). step .larger) (first-step f k range (nodeCount f k) 1 marks size step h e);
+      smaller = λ step h e. ap (λ (step : Step). step .smaller) (first-step f k range (nodeCount f k) 1 marks step h e);
+      larger = λ step h e. ap (λ (step : Step). step .larger) (first-step f k range (nodeCount f k) 1 marks step h e);
     }
 
 pub reads-claim : ReadsClaim

@@ -3,7 +3,7 @@
 -- Assumes nothing.
 use mathlib.Core.Path.{_≡_, refl, sym, ap, ap₂, _∙_}
 use mathlib.Core.Bool.{Bool}
-use mathlib.Core.List.{List, List·Memᴰ, List·Memᴰ·head, List·Memᴰ·tail, List·Memᴰ·not-nil, List·Memᴰ·append-cases, [], _∷_, _++_, append-nil, getLastD}
+use mathlib.Core.List.{List, List·Memᴰ, List·Memᴰ·head, List·Memᴰ·tail, List·Memᴰ·not-nil, List·Memᴰ·append-cases, Memᴰ·append-left, [], _∷_, _++_, append-nil, getLastD}
 use mathlib.Core.Logic.{_⊎_, inl, inr}
 use Prim.Native.Nat.{ℕ, zero, suc, _+_, _≤_, _<_}
 use native.Mathlib.Decide.{ℕ-discrete}
@@ -53,6 +53,21 @@ module _ (reading : Reading) (shrinks : Shrinks reading) (f : Family) (k : ℕ) 
       go : List·Memᴰ step (now marks s) ⊎ List·Memᴰ step (rest marks s m) → (List·Memᴰ step (rest marks s m) → suc s ≤ step .round) → s ≤ step .round
       go (inl q) later = omega (arith, own marks s step q)
       go (inr q) later = omega (arith, later q)
+
+  -- the steps of the first round are those with its number
+  pub first-steps : (m s : ℕ) (marks : List Bool) (step : Step) → List·Memᴰ step (rounds s marks m) → step .round ≡ s → List·Memᴰ step (now marks s)
+  unfolding roundsFrom
+  first-steps zero s marks step h e = absurd (List·Memᴰ·not-nil h)
+  first-steps (suc m) s marks step h e = go (List·Memᴰ·append-cases (now marks s) h)
+    where
+      go : List·Memᴰ step (now marks s) ⊎ List·Memᴰ step (rest marks s m) → List·Memᴰ step (now marks s)
+      go (inl q) = q
+      go (inr q) = absurd (omega (arith, e, from-round m (suc s) (afterRound reading shrinks f k marks s) step q))
+
+  pub first-listed : (m s : ℕ) (marks : List Bool) (step : Step) → 1 ≤ m → List·Memᴰ step (now marks s) → List·Memᴰ step (rounds s marks m)
+  unfolding roundsFrom
+  first-listed zero s marks step l h = absurd (omega arith)
+  first-listed (suc m) s marks step l h = Memᴰ·append-left {s = now marks s} (rest marks s m) h
 
   -- ---- one round among the others
 

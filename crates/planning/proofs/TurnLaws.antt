@@ -3,7 +3,7 @@
 -- Assumes nothing.
 use mathlib.Core.Path.{_≡_, refl, sym, ap, ap₂, _∙_}
 use mathlib.Core.Bool.{Bool, true, false, cond, not}
-use mathlib.Core.List.{List, List·Memᴰ, List·Memᴰ·head, List·Memᴰ·tail, List·Memᴰ·not-nil, List·Memᴰ·append-cases, Memᴰ·append-right, Memᴰ·cast, Memᴰ·map, Memᴰ·of-map, [], _∷_, _++_, append-assoc, append-nil}
+use mathlib.Core.List.{List, List·Memᴰ, List·Memᴰ·head, List·Memᴰ·tail, List·Memᴰ·not-nil, List·Memᴰ·append-cases, Memᴰ·append-left, Memᴰ·append-right, Memᴰ·map, Memᴰ·of-map, [], _∷_, _++_, append-assoc, append-nil}
 use mathlib.Core.Logic.{_⊎_, inl, inr}
 use Prim.Native.Nat.{ℕ, zero, suc, _+_, _≤_, _<_}
 use native.Mathlib.Decide.{ℕ-discrete}
@@ -265,3 +265,17 @@ module _ (f : Family) (k : ℕ) (marks : List Bool) (r : ℕ) where
           waits = waits-without;
           once = read-once;
         }
+
+    -- a node with a pair, before whose turn no node is repaired, has all nodes to be read from
+    pub first-turn : (i : ℕ) → IsNode f k i → isLive marks i ≡ false → 1 ≤ smallerNode f k marks i → ((step : Step) → List·Memᴰ step steps → step .node < i → ⊥)
+        → List·Memᴰ (stepOf f k marks marks r i) steps
+    unfolding freeAfter
+    first-turn i n v h none = go (turn-of i n v) (turn-of i n v .before) refl (turn-of i n v .here)
+      where
+        go : (t : Turn steps i) (before : List Step) → t .before ≡ before → Here i (freeAfter marks before) (t .after) → List·Memᴰ (stepOf f k marks marks r i) steps
+        go t (x ∷ before) e w =
+            let first : List·Memᴰ x (t .before) = rw e (List·Memᴰ·head {x = x} {xs = before} refl) in
+            let listed : List·Memᴰ x steps = rw (t .split) (Memᴰ·append-left {s = t .before} (t .after) first) in
+            absurd (none x listed (t .below x first))
+        go t [] e (inl w) = absurd (omega (arith, w .none))
+        go t [] e (inr w) = rw (t .split, w .first) (Memᴰ·append-right (t .before) (List·Memᴰ·head {x = stepOf f k marks marks r i} {xs = w .rest} refl))

@@ -20,9 +20,10 @@ use Rattle.lists.proofs.Laws.{length-setLive}
 use Rattle.lists.proofs.MarkLaws.{live-keeps, live-listed, listed-live}
 use Rattle.pairing.specs.Pairs.{smallerNode}
 use Rattle.planning.specs.Plan.{Step, RepairedIn, stepOf, often, stepsFor, roundSteps, repairedNodes, marksAfter, roundsFrom, lastRound}
-use Rattle.planning.proofs.MakeLaws.{isRepaired, repaired-missing, live-kept, pairless-kept, pair-repairs, turn-waits, turn-repairs}
+use Rattle.planning.proofs.MakeLaws.{often-shrinks, isRepaired, repaired-missing, live-kept, pairless-kept, pair-repairs, turn-waits, turn-repairs}
 use Rattle.planning.proofs.RepairedLaws.{LivePair, repaired-pair, pair-repaired}
 use Rattle.planning.proofs.RoundLaws.{marks-append}
+use Rattle.planning.proofs.RoundsLaws.{first-steps}
 
 module _ (f : Family) (k : ℕ) where
   -- the nodes that a wave repairs
@@ -187,26 +188,10 @@ module _ (f : Family) (k : ℕ) where
             let t = later (record { step = h .step; listed = q; node = h .node; round = h .round }) in
             record { after = suc (t .after); is = omega (arith, t .is); turn = later-turn marks (t .after) j (rw (round-marks marks r) at (t .turn)) }
 
-    -- the steps of round r are those of the first round
-    pub first-steps : (m r : ℕ) (marks : List Bool) → length marks ≡ 256 → (step : Step) → List·Memᴰ step (roundsFrom often f k r marks m) → step .round ≡ r
-        → List·Memᴰ step (roundSteps often f k marks r)
-    unfolding roundsFrom
-    first-steps zero r marks size step h e = absurd (List·Memᴰ·not-nil h)
-    first-steps (suc m) r marks size step h e = go (List·Memᴰ·append-cases (roundSteps often f k marks r) h)
-      where
-        next : List Bool
-        next = marksAfter marks (roundSteps often f k marks r)
-
-        go : List·Memᴰ step (roundSteps often f k marks r) ⊎ List·Memᴰ step (roundsFrom often f k (suc r) (marksAfter marks (roundSteps often f k marks r)) m) → List·Memᴰ step (roundSteps often f k marks r)
-        go (inl q) = q
-        go (inr q) =
-            let t = step-turn m (suc r) next (length-setLive marks _ ∙ size) (step .node) r (record { step = step; listed = q; node = refl; round = e }) in
-            absurd (omega (arith, t .is))
-
-    -- and each of them is that of its node
-    pub first-step : (m r : ℕ) (marks : List Bool) → length marks ≡ 256 → (step : Step) → List·Memᴰ step (roundsFrom often f k r marks m) → step .round ≡ r → step ≡ waveStep marks r (step .node)
-    first-step m r marks size step h e =
-        let q = Memᴰ·of-map (waveStep marks r) (waveNodes marks) (rw (wave-steps marks r) at (first-steps m r marks size step h e)) in
+    -- each step of the first wave is that of its node
+    pub first-step : (m r : ℕ) (marks : List Bool) (step : Step) → List·Memᴰ step (roundsFrom often f k r marks m) → step .round ≡ r → step ≡ waveStep marks r (step .node)
+    first-step m r marks step h e =
+        let q = Memᴰ·of-map (waveStep marks r) (waveNodes marks) (rw (wave-steps marks r) at (first-steps often often-shrinks f k m r marks step h e)) in
         sym (q .2) ∙ ap (waveStep marks r) (ap (λ (step : Step). step .node) (q .2))
 
 -- a bound of every step's round bounds the last one

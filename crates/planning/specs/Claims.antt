@@ -3,7 +3,7 @@ use mathlib.Core.Path.{_≡_}
 use mathlib.Core.Bool.{Bool, true, false}
 use mathlib.Core.List.{List, List·Memᴰ, [], _∷_}
 use mathlib.Core.Logic.{_↔_}
-use Prim.Native.Nat.{ℕ, _+_, _*_, _≤_}
+use Prim.Native.Nat.{ℕ, _+_, _*_, _≤_, _<_}
 use lib.ListN.{length, set}
 use Rattle.families.specs.declared.Family.{Family}
 use Rattle.families.specs.Families.{KInRange, IsNode, nodeCount, areRelated}
@@ -90,7 +90,18 @@ pub record PlanRoundsClaims (f : Family) (k : ℕ) (marks : List Bool) : Type 0 
 abbrev pub PlanRoundsClaim : Type 0
 PlanRoundsClaim = (f : Family) (k : ℕ) → KInRange f k → (marks : List Bool) → length marks ≡ 256 → PlanRoundsClaims f k marks
 
--- ---- wave 1
+-- ---- round 1, and wave 1
+
+-- of round 1 of the plan from marks
+pub record FirstRoundClaims (f : Family) (k : ℕ) (marks : List Bool) : Type 0 where
+  -- it repairs no missing node but those that have a pair by the count
+  pub repaired : (j : ℕ) → RepairedIn j 1 (planOf f k marks) → IsNode f k j × (isLive marks j ≡ false) × (1 ≤ pairCount f k marks j)
+  -- and the first of these from the pair that the search gives
+  pub first : (j : ℕ) → IsNode f k j → isLive marks j ≡ false → 1 ≤ pairCount f k marks j → ((i : ℕ) → IsNode f k i → isLive marks i ≡ false → i < j → pairCount f k marks i ≡ 0)
+      → List·Memᴰ (record { round = 1; node = j; smaller = pairsOf f k marks j .smaller; larger = pairsOf f k marks j .larger }) (planOf f k marks)
+
+abbrev pub FirstRoundClaim : Type 0
+FirstRoundClaim = (f : Family) (k : ℕ) → KInRange f k → (marks : List Bool) → FirstRoundClaims f k marks
 
 -- of wave 1 from marks
 pub record FirstWaveClaims (f : Family) (k : ℕ) (marks : List Bool) : Type 0 where

@@ -18,7 +18,7 @@ use Rattle.pairing.specs.Pairs.{pairCount, mostPairs}
 use Rattle.pairing.specs.Claims.{SearchClaims, IsPair}
 use Rattle.pairing.proofs.Proved.{search-claim}
 use Rattle.planning.specs.Claims.{FirstWaveClaims}
-use Rattle.planning.proofs.Proved.{first-wave-claim}
+use Rattle.planning.proofs.Proved.{first-round-claim, first-wave-claim}
 use Rattle.repair.specs.declared.Session.{Session}
 use Rattle.repair.specs.declared.PairsFound.{PairsFound}
 use Rattle.repair.specs.Session.{Arrays, nodeCountOf, unsound}
@@ -35,6 +35,10 @@ use Rattle.repair.proofs.OwnLaws.{session-ran}
 use Rattle.repair.proofs.AcceptsProved.{accepts-claim}
 use Rattle.repair.proofs.RepairsProved.{step-claim, stays-claim, run-claim}
 
+search-count : (s : Session) → unsound s ≡ false → (i : ℕ) → IsNode (familyOf (s .family)) (s .k) i → pairsFound s i .count ≡ pairCount (familyOf (s .family)) (s .k) (s .live) i
+search-count s sound i n =
+    ap (λ (r : PairsFound). r .count) (pairs-given s i sound n) ∙ search-claim (familyOf (s .family)) (s .k) (known s sound .range .blocks) (s .live) i n .count
+
 -- a sound session and one of its nodes
 module _ (s : Session) (sound : unsound s ≡ false) (j : ℕ) (node : IsNode (familyOf (s .family)) (s .k) j) where
   range : KInRange (familyOf (s .family)) (s .k)
@@ -46,8 +50,8 @@ module _ (s : Session) (sound : unsound s ≡ false) (j : ℕ) (node : IsNode (f
   is : pairsFound s j ≡ servedPairs s j
   is = pairs-given s j sound node
 
-  pub count-is : pairsFound s j .count ≡ pairCount (familyOf (s .family)) (s .k) (s .live) j
-  count-is = ap (λ (r : PairsFound). r .count) is ∙ own .count
+  count-is : pairsFound s j .count ≡ pairCount (familyOf (s .family)) (s .k) (s .live) j
+  count-is = search-count s sound j node
 
   some : 1 ≤ pairsFound s j .count → 1 ≤ pairCount (familyOf (s .family)) (s .k) (s .live) j
   some h = omega (arith, count-is)
@@ -72,6 +76,11 @@ module _ (s : Session) (sound : unsound s ≡ false) (j : ℕ) (node : IsNode (f
             let p = given h in
             ap₂ xorBytes (live (pairsFound s j .smaller) (p .smaller .node) (p .smaller .live)) (live (pairsFound s j .larger) (p .larger .node) (p .larger .live))
             ∙ sym (related-block (familyOf (s .family)) (s .k) (s .len) object fits (pairsFound s j .smaller) (pairsFound s j .larger) j (p .related));
+        round-1 = λ t. omega (arith, count-is, first-round-claim (familyOf (s .family)) (s .k) range (s .live) .repaired j t .2);
+        first = λ missing h none.
+            rw is
+            (first-round-claim (familyOf (s .family)) (s .k) range (s .live) .first j node missing (some h)
+            (λ i n gone l. sym (search-count s sound i n) ∙ none i n gone l));
         wave-1 = λ missing. (
           (λ t. omega (arith, count-is, first .repaired j .0 t .2)),
           (λ h. first .repaired j .1 (node, missing, some h)),

@@ -1,9 +1,9 @@
 -- What is proved of the pairs of a node (document 02, K4) besides the equation of the search; proofs/PairsProved.antt has the proofs.
 use mathlib.Core.Path.{_≡_}
 use mathlib.Core.Bool.{true, false}
-use mathlib.Core.List.{List}
+use mathlib.Core.List.{List, List·Memᴰ}
 use mathlib.Core.Logic.{_↔_}
-use Prim.Native.Nat.{ℕ, _*_, _≤_}
+use Prim.Native.Nat.{ℕ, _*_, _≤_, _<_}
 use lib.ListN.{length}
 use Rattle.families.specs.Families.{familyOf, IsNode, columnOf, areRelated}
 use Rattle.blocks.specs.Blocks.{xorBytes, blockOf}
@@ -16,7 +16,7 @@ use Rattle.repair.specs.declared.Session.{Session}
 use Rattle.repair.specs.Session.{Arrays, nodeCountOf}
 use Rattle.repair.specs.Pairs.{pairsFound}
 use Rattle.repair.specs.Step.{stepped}
-use Rattle.repair.specs.Repairs.{ran}
+use Rattle.repair.specs.Repairs.{planIn, ran}
 use Rattle.repair.specs.RepairClaims.{LiveAreOwn}
 
 -- of a session and one of its nodes, live or missing
@@ -37,7 +37,12 @@ pub record PairsClaims (s : Session) (j : ℕ) : Type 0 where
   pub read : 1 ≤ pairsFound s j .count → (object nodes : List ℕ) → length object ≡ s .k * s .len → LiveAreOwn object s nodes
       → xorBytes (blockOf (s .len) nodes (pairsFound s j .smaller)) (blockOf (s .len) nodes (pairsFound s j .larger))
       ≡ nodeBlock (s .k) (s .len) object (columnOf (familyOf (s .family)) (s .k) j)
-  -- a missing node: wave 1 repairs it exactly where the count is above 0, and a step from the pair is then accepted
+  -- a missing node: round 1 of the plan repairs it where the count is above 0 alone, and the first node of these from the pair
+  pub round-1 : RepairedIn j 1 (planIn s) → 1 ≤ pairsFound s j .count
+  pub first : isLive (s .live) j ≡ false → 1 ≤ pairsFound s j .count
+      → ((i : ℕ) → IsNode (familyOf (s .family)) (s .k) i → isLive (s .live) i ≡ false → i < j → pairsFound s i .count ≡ 0)
+      → List·Memᴰ (record { round = 1; node = j; smaller = pairsFound s j .smaller; larger = pairsFound s j .larger }) (planIn s)
+  -- wave 1 repairs it exactly where the count is above 0, and a step from the pair is then accepted
   pub wave-1 : isLive (s .live) j ≡ false → RepairedIn j 1 (wavesOf (familyOf (s .family)) (s .k) (s .live)) ↔ (1 ≤ pairsFound s j .count)
   pub step : isLive (s .live) j ≡ false → 1 ≤ pairsFound s j .count → (nodes : List ℕ) → length nodes ≡ nodeCountOf s * s .len
       → stepped s nodes j (pairsFound s j .smaller) (pairsFound s j .larger) .refusal ≡ 0
