@@ -22,11 +22,11 @@ use Rattle.interleaving.proofs.Answers.{kept}
 use Rattle.lists.specs.Lists.{someOutside, rises, placeIn, setLive, someMissing, passesOutside}
 use Rattle.counts.specs.Counts.{countOf, countAll, sumOf}
 use Rattle.pairing.specs.Pairs.{largerNode, smallerNode, pairCount, pairsAmong}
-use Rattle.planning.specs.Plan.{once, stepsFor, roundsFrom, planOf, wavesOf, sourcesOf, marksAfter, stepBytes, lastRound, nodesLeft}
+use Rattle.planning.specs.Plan.{once, stepsFor, roundsFrom, planOf, sourcesOf, marksAfter, stepBytes, lastRound, nodesLeft}
 use Rattle.planning.specs.Made.{stepsIn}
 use Rattle.planning.proofs.RoundLaws.{length-bytes}
 use Rattle.planning.proofs.CarryLaws.{steps-back}
-use Rattle.waves.specs.Waves.{mostWaves}
+use Rattle.waves.specs.Waves.{wavesOf, mostWaves}
 use Rattle.boxes.specs.Box.{blockLengthIn, nodeCountIn, boxChecks, bodyChecks, bodyOf}
 use Rattle.boxes.specs.Bodies.{boxOf, withBodies}
 use Rattle.graded.specs.Order.{gradedTable, below}

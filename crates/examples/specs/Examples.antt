@@ -13,9 +13,9 @@ use Rattle.checks.specs.Checks.{firstMet}
 use Rattle.checks.specs.Parameters.{mostL}
 use Rattle.encoding.specs.Encode.{encodeAnswer, encoded}
 use Rattle.interleaving.specs.Interleaved.{interleaved, deinterleaved, interleaveAnswer, outMoved}
-use Rattle.planning.specs.Plan.{wavesOf, stepBytes}
+use Rattle.planning.specs.Plan.{stepBytes}
 use Rattle.planning.specs.Made.{nodesMade, stepsIn}
-use Rattle.waves.specs.Waves.{mostWaves}
+use Rattle.waves.specs.Waves.{wavesOf, mostWaves}
 use Rattle.boxes.specs.Box.{blockLengthIn, nodeCountIn, bodyChecks, bodyStart, bodyOf}
 use Rattle.conversion.specs.Converted.{fromGraded, toGraded, converted, outConverted}
 use Rattle.repair.specs.declared.Session.{Session}

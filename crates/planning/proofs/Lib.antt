@@ -2,14 +2,11 @@ pub mod Steps
 pub mod MakeLaws
 pub mod RoundLaws
 pub mod SourceLaws
-pub mod RepairedLaws
 pub mod PlanLaws
 pub mod PlannedLaws
 pub mod FreeLaws
 pub mod WithLaws
 pub mod TurnLaws
 pub mod RoundsLaws
-pub mod WaveLaws
-pub mod AgainstWaves
 pub mod CarryLaws
 pub mod Proved

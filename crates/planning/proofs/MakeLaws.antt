@@ -23,7 +23,7 @@ use Rattle.lists.proofs.MarkLaws.{set-keeps}
 use Rattle.lists.proofs.WithoutLaws.{unset-live}
 use Rattle.planning.specs.Claims.{CanMake, CanMakeAll}
 use Rattle.pairing.specs.Pairs.{smallerNode, pairsAmong}
-use Rattle.planning.specs.Plan.{Step, stepOf, Reading, once, often, stepsFor, roundSteps, repairedNodes, marksAfter, nodesLeft}
+use Rattle.planning.specs.Plan.{Step, stepOf, Reading, once, stepsFor, roundSteps, repairedNodes, marksAfter, nodesLeft}
 use Rattle.pairing.proofs.PairLaws.{PairOf, pair-of, pairs-are, among-smaller}
 
 -- ---- the marks after steps
@@ -106,9 +106,6 @@ Shrinks reading = (free : List Bool) (step : Step) → Within (reading free step
 pub once-shrinks : Shrinks once
 unfolding once
 once-shrinks free step i h = unset-live free (step .smaller) i (unset-live (set free (step .smaller) false) (step .larger) i h .1) .1
-
-pub often-shrinks : Shrinks often
-often-shrinks free step i h = h
 
 module _ (reading : Reading) (shrinks : Shrinks reading) (f : Family) (k : ℕ) (range : KInRange f k) (marks : List Bool) (r : ℕ) where
   -- the marks once the steps below node j are made: none is lost, and from j on all are as when the round began

@@ -1,6 +1,6 @@
 -- The claims of specs/Claims.antt.
 -- Assumes nothing.
-use mathlib.Core.Path.{_≡_, ap}
+use mathlib.Core.Path.{_≡_}
 use mathlib.Core.Bool.{Bool, true, false}
 use mathlib.Core.List.{List, List·Memᴰ}
 use Prim.Native.Nat.{ℕ, _≤_}
@@ -15,16 +15,13 @@ use Rattle.counts.proofs.Laws.{sum-all}
 use Rattle.pairing.specs.Pairs.{pairCount}
 use Rattle.pairing.proofs.PairLaws.{smaller-some}
 use Rattle.pairing.proofs.NoneLaws.{count-some, some-count}
-use Rattle.planning.specs.Claims.{PlanClaim, PlanRoundsClaim, FirstRoundClaim, FirstWaveClaim, ReadsClaim, LiveReadsClaim}
-use Rattle.planning.specs.Plan.{Step, once, roundSteps, sourcesOf, timesRead, marksAfter, planOf, wavesOf, beforeRound}
-use Rattle.planning.proofs.MakeLaws.{once-shrinks, make-counts, left-few, pair-repairs}
-use Rattle.planning.proofs.RepairedLaws.{repaired-pair}
-use Rattle.planning.proofs.WaveLaws.{afterWaves, Turn, turn-step, step-turn, first-step, waves-only, waves-get}
+use Rattle.planning.specs.Claims.{PlanClaim, PlanRoundsClaim, FirstRoundClaim, ReadsClaim, LiveReadsClaim}
+use Rattle.planning.specs.Plan.{Step, once, roundSteps, sourcesOf, timesRead, marksAfter, planOf, beforeRound}
+use Rattle.planning.proofs.MakeLaws.{once-shrinks, make-counts, left-few}
 use Rattle.planning.proofs.SourceLaws.{length-sources, sources-inside, reads-are, times-few}
 use Rattle.planning.proofs.FreeLaws.{free-pair}
 use Rattle.planning.proofs.TurnLaws.{round-claims, first-turn}
 use Rattle.planning.proofs.RoundsLaws.{from-round, first-steps, first-listed, round-is, rounds-some, rounds-few, rounds-most}
-use Rattle.planning.proofs.AgainstWaves.{same-marks, wave-first, waves-few}
 use Rattle.planning.proofs.PlanLaws.{rounds-end, rounds-make, rounds-quiet, rounds-enough}
 
 pub plan-claim : PlanClaim
@@ -49,9 +46,6 @@ plan-rounds-claim f k range marks size =
       some = λ r l h. rounds-some once once-shrinks f k n 1 marks (omega arith) r l h;
       few = omega (arith, rounds-few once once-shrinks f k n 0 marks);
       within = λ step h. (from-round once once-shrinks f k n 1 marks step h, rounds-most once once-shrinks f k n 1 marks step h);
-      same-left = same-marks f k range marks size;
-      no-sooner = λ j r w p q. wave-first f k range marks size j r w p q;
-      waves = waves-few f k range marks size;
     }
 
 -- a node that round 1 repairs has a pair by the count
@@ -73,25 +67,6 @@ first-round-claim f k range marks =
       first = λ j n v c none.
           first-listed once once-shrinks f k (nodeCount f k) 1 marks _ (omega (arith, n .first, n .last))
           (first-turn f k marks 1 range j n v (some-count f k marks j c) (λ step h l. let q = first-counted f k range marks step h in omega (arith, none (step .node) (q .0) (q .1) l, q .2)));
-    }
-
-pub first-wave-claim : FirstWaveClaim
-unfolding wavesOf afterWaves
-first-wave-claim f k range marks size =
-    record {
-      repaired = λ j. (
-        (λ h.
-            let t = step-turn f k range (nodeCount f k) 1 marks size j 1 h in
-            let e : t .after ≡ 0 = omega (arith, t .is) in
-            let turn : Turn f k marks 0 j = rw e at (t .turn) in
-            let p = waves-only f k range marks 0 j (turn .missing) (turn .live) in
-            (turn .node, turn .missing, count-some f k marks j (smaller-some f k marks j range (turn .node) (p .one) (p .other) (p .one-live) (p .other-live) (p .related)))),
-        (λ h.
-            let p = repaired-pair f k range marks j (pair-repairs f k marks marks j (h .1) (some-count f k marks j (h .2))) in
-            turn-step f k (nodeCount f k) 1 marks 0 j (omega (arith, h .0 .first, h .0 .last)) (record { node = h .0; missing = h .1; live = waves-get f k range marks size 0 j (h .0) p })),
-      );
-      smaller = λ step h e. ap (λ (step : Step). step .smaller) (first-step f k range (nodeCount f k) 1 marks step h e);
-      larger = λ step h e. ap (λ (step : Step). step .larger) (first-step f k range (nodeCount f k) 1 marks step h e);
     }
 
 pub reads-claim : ReadsClaim

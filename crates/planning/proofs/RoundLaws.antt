@@ -255,20 +255,20 @@ module _ {f : Family} {k : ℕ} {marks : List Bool} {r : ℕ} {start : List ℕ}
     round-room = omega (arith, w .room, w .kept, total)
 
     -- the list without the pair has the nodes that may be read next
-    module _ (more : List ℕ) (left : ℕ) where
+    module _ (part : List ℕ) (left : ℕ) where
       abbrev kept-nodes : List ℕ
       kept-nodes = without (x .pairs .smaller) (x .pairs .larger) (take count list)
 
-      pub round-more : left ≡ length kept-nodes → more ≡ (kept-nodes ++ drop (length kept-nodes) (take count list)) ++ drop count list
-          → InRound f k marks r start from before (putMid (from + 4 * steps) 4 out (r ∷ x .node ∷ x .pairs .smaller ∷ x .pairs .larger ∷ [])) (set next (x .node) true) more left rest-free (steps + 1) (x .node)
+      pub round-more : left ≡ length kept-nodes → part ≡ kept-nodes ++ drop (length kept-nodes) (take count list)
+          → InRound f k marks r start from before (putMid (from + 4 * steps) 4 out (r ∷ x .node ∷ x .pairs .smaller ∷ x .pairs .larger ∷ [])) (set next (x .node) true) (part ++ drop count list) left rest-free (steps + 1) (x .node)
       unfolding stepBytes flatMap setLive
-      round-more el em =
+      round-more el ep =
           let one = asStep f k marks r free x ∷ [] in
           let after = w .done ++ one in
           let l : length after ≡ length (w .done) + 1 = length-append (w .done) one in
           let fours : 4 * (length (w .done) + 1) ≡ 4 * length (w .done) + 4 = omega arith in
           let tail = drop (length kept-nodes) (take count list) ++ drop count list in
-          let em2 : more ≡ kept-nodes ++ tail = em ∙ append-assoc kept-nodes (drop (length kept-nodes) (take count list)) (drop count list) in
+          let em : part ++ drop count list ≡ kept-nodes ++ tail = ap (λ (l : List ℕ). l ++ drop count list) ep ∙ append-assoc kept-nodes (drop (length kept-nodes) (take count list)) (drop count list) in
           record {
             done = after;
             split = w .split ∙ rw (n .steps, append-assoc (w .done) one (stepsAbove f k marks r rest-free (x .node)));
@@ -279,9 +279,9 @@ module _ {f : Family} {k : ℕ} {marks : List Bool} {r : ℕ} {start : List ℕ}
             bytes = rw (w .count-is, w .bytes, l, bytes-append (w .done) one, fours) (put-beside start (stepBytes (w .done)) (stepBytes one) from (4 * length (w .done)) 4 (omega (arith, round-room, w .kept)) (length-bytes (w .done)));
             marked = rw (w .marked, marks-append before (w .done) one);
             live = λ i v. w .live i (unset-live free (x .pairs .smaller) i (unset-live (set free (x .pairs .smaller) false) (x .pairs .larger) i v .1) .1);
-            fits = omega (arith, el, ap length em2, length-append kept-nodes tail);
+            fits = omega (arith, el, ap length em, length-append kept-nodes tail);
             nodes =
-                rw em2 (take-at kept-nodes tail left (sym el)) ∙ ap (without (x .pairs .smaller) (x .pairs .larger)) (w .nodes)
+                rw em (take-at kept-nodes tail left (sym el)) ∙ ap (without (x .pairs .smaller) (x .pairs .larger)) (w .nodes)
                 ∙ without-live (x .pairs .smaller) (x .pairs .larger) free 1 (nodeCount f k);
           }
 

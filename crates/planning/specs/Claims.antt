@@ -11,7 +11,7 @@ use Rattle.lists.specs.Lists.{isLive, rises}
 use Rattle.counts.specs.Counts.{countOf, countAll, sumOf}
 use Rattle.pairing.specs.Pairs.{pairCount, pairsOf, NoPairLeft}
 use Rattle.pairing.specs.Claims.{IsPair}
-use Rattle.planning.specs.Plan.{Step, RepairedIn, once, roundSteps, freeAfter, repairedNodes, sourcesOf, timesRead, marksAfter, roundsFrom, planOf, wavesOf, inRound, beforeRound, beforeNode, lastRound, nodesLeft}
+use Rattle.planning.specs.Plan.{Step, RepairedIn, once, roundSteps, freeAfter, repairedNodes, sourcesOf, timesRead, marksAfter, roundsFrom, planOf, inRound, beforeRound, beforeNode, lastRound, nodesLeft}
 
 -- a step that can be made: it names a missing node and two live nodes related to it
 pub record CanMake (f : Family) (k : ℕ) (marks : List Bool) (step : Step) : Type 0 where
@@ -80,17 +80,11 @@ pub record PlanRoundsClaims (f : Family) (k : ℕ) (marks : List Bool) : Type 0 
   pub few : lastRound (planOf f k marks) ≤ length (planOf f k marks)
   -- and a step's round is one of them
   pub within : (step : Step) → List·Memᴰ step (planOf f k marks) → (1 ≤ step .round) × (step .round ≤ lastRound (planOf f k marks))
-  -- the marks after all rounds are those after all waves: the nodes left are the same
-  pub same-left : marksAfter marks (planOf f k marks) ≡ marksAfter marks (wavesOf f k marks)
-  -- no node returns in a round before its wave
-  pub no-sooner : (j r w : ℕ) → RepairedIn j r (planOf f k marks) → RepairedIn j w (wavesOf f k marks) → w ≤ r
-  -- and the rounds are at least as many as the waves
-  pub waves : lastRound (wavesOf f k marks) ≤ lastRound (planOf f k marks)
 
 abbrev pub PlanRoundsClaim : Type 0
 PlanRoundsClaim = (f : Family) (k : ℕ) → KInRange f k → (marks : List Bool) → length marks ≡ 256 → PlanRoundsClaims f k marks
 
--- ---- round 1, and wave 1
+-- ---- round 1
 
 -- of round 1 of the plan from marks
 pub record FirstRoundClaims (f : Family) (k : ℕ) (marks : List Bool) : Type 0 where
@@ -102,17 +96,6 @@ pub record FirstRoundClaims (f : Family) (k : ℕ) (marks : List Bool) : Type 0 
 
 abbrev pub FirstRoundClaim : Type 0
 FirstRoundClaim = (f : Family) (k : ℕ) → KInRange f k → (marks : List Bool) → FirstRoundClaims f k marks
-
--- of wave 1 from marks
-pub record FirstWaveClaims (f : Family) (k : ℕ) (marks : List Bool) : Type 0 where
-  -- it repairs exactly the missing nodes that have a pair by the count
-  pub repaired : (j : ℕ) → RepairedIn j 1 (wavesOf f k marks) ↔ (IsNode f k j × (isLive marks j ≡ false) × (1 ≤ pairCount f k marks j))
-  -- and its steps read the pairs that the search gives
-  pub smaller : (step : Step) → List·Memᴰ step (wavesOf f k marks) → step .round ≡ 1 → step .smaller ≡ pairsOf f k marks (step .node) .smaller
-  pub larger : (step : Step) → List·Memᴰ step (wavesOf f k marks) → step .round ≡ 1 → step .larger ≡ pairsOf f k marks (step .node) .larger
-
-abbrev pub FirstWaveClaim : Type 0
-FirstWaveClaim = (f : Family) (k : ℕ) → KInRange f k → (marks : List Bool) → length marks ≡ 256 → FirstWaveClaims f k marks
 
 -- ---- reads
 

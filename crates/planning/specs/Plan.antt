@@ -25,13 +25,9 @@ stepOf f k marks free r j = let pairs = pairsAmong f k marks free j in record { 
 abbrev pub Reading : Type 0
 Reading = List Bool → Step → List Bool
 
--- a node is read once: neither of a step's pair may be read again (document 02, K11; a round)
+-- a node is read once in a round: neither of a step's pair may be read again (document 02, K11)
 unfoldable pub once : Reading
 once free step = set (set free (step .smaller) false) (step .larger) false
-
--- a node is read by any number of repairs: all may be read again (document 01; a wave)
-abbrev pub often : Reading
-often free step = free
 
 -- the steps of round r for missing nodes, in the order of their list: each with its least pair of nodes that may be read; a node without
 -- one waits
@@ -83,10 +79,6 @@ roundsFrom reading f k r marks (suc m) = let steps = roundSteps reading f k mark
 -- the plan: n rounds are enough, since each until they end repairs a node (`PlanClaims`)
 unfoldable pub planOf : Family → ℕ → List Bool → List Step
 planOf f k marks = roundsFrom once f k 1 marks (nodeCount f k)
-
--- the waves: document 01's rounds, in which a live node may be read by any number of repairs
-unfoldable pub wavesOf : Family → ℕ → List Bool → List Step
-wavesOf f k marks = roundsFrom often f k 1 marks (nodeCount f k)
 
 -- the steps that pass a test
 unfoldable pub stepsWith : (Step → Bool) → List Step → List Step

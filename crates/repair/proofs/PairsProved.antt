@@ -17,8 +17,9 @@ use Rattle.pairing.specs.declared.Pairs.{Pairs}
 use Rattle.pairing.specs.Pairs.{pairCount, mostPairs}
 use Rattle.pairing.specs.Claims.{SearchClaims, IsPair}
 use Rattle.pairing.proofs.Proved.{search-claim}
-use Rattle.planning.specs.Claims.{FirstWaveClaims}
-use Rattle.planning.proofs.Proved.{first-round-claim, first-wave-claim}
+use Rattle.planning.proofs.Proved.{first-round-claim}
+use Rattle.waves.specs.Waves.{FirstWaveClaims}
+use Rattle.waves.proofs.Proved.{first-wave-claim}
 use Rattle.repair.specs.declared.Session.{Session}
 use Rattle.repair.specs.declared.PairsFound.{PairsFound}
 use Rattle.repair.specs.Session.{Arrays, nodeCountOf, unsound}

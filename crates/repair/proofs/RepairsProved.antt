@@ -14,6 +14,8 @@ use Rattle.lists.proofs.Laws.{length-setLive}
 use Rattle.pairing.specs.Pairs.{NoPairLeft}
 use Rattle.planning.specs.Plan.{Step, repairedNodes, marksAfter, nodesLeft}
 use Rattle.planning.specs.Claims.{PlanRoundsClaims}
+use Rattle.waves.specs.Waves.{RoundsAndWaves}
+use Rattle.waves.proofs.Proved.{rounds-and-waves}
 use Rattle.planning.proofs.CarryLaws.{steps-back}
 use Rattle.planning.proofs.Proved.{plan-claim, plan-rounds-claim}
 use Rattle.repair.specs.declared.Session.{Session}
@@ -56,6 +58,9 @@ module _ (s : Session) (marks : length (s .live) ≡ 256) where
   of-rounds : unsound s ≡ false → PlanRoundsClaims (familyOf (s .family)) (s .k) (s .live)
   of-rounds sound = plan-rounds-claim (familyOf (s .family)) (s .k) (known s sound .range .blocks) (s .live) marks
 
+  of-waves : unsound s ≡ false → RoundsAndWaves (familyOf (s .family)) (s .k) (s .live)
+  of-waves sound = rounds-and-waves (familyOf (s .family)) (s .k) (known s sound .range .blocks) (s .live) marks
+
   rounds-claims : (sound : Bool) → unsound s ≡ sound → RoundsClaims s
   unfolding planned ran planChecks nodesChecks firstMet
   rounds-claims true e =
@@ -64,7 +69,7 @@ module _ (s : Session) (marks : length (s .live) ≡ 256) where
         each = of-rounds;
         plan = λ out h. rw (plan-accepted s out h);
         run = λ nodes h. rw (run-accepted s nodes h);
-        waves = λ sound. of-rounds sound .waves;
+        waves = of-waves;
         plan-few = λ out. rw e none;
         run-few = λ nodes. rw e none;
       }
@@ -73,7 +78,7 @@ module _ (s : Session) (marks : length (s .live) ≡ 256) where
         each = of-rounds;
         plan = λ out h. rw (plan-accepted s out h);
         run = λ nodes h. rw (run-accepted s nodes h);
-        waves = λ sound. of-rounds sound .waves;
+        waves = of-waves;
         plan-few = λ out. answer-either (planChecks s out) (repairsOf s s) (refusedRepairs s) (λ (r : Repairs). r .rounds ≤ r .steps) (of-rounds e .few) (λ n. omega arith);
         run-few = λ nodes.
             answer-either (nodesChecks s (length nodes)) (repairsOf s (afterSteps s (planIn s))) (refusedRepairs s) (λ (r : Repairs). r .rounds ≤ r .steps) (of-rounds e .few) (λ n. omega arith);

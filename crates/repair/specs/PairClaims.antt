@@ -11,7 +11,8 @@ use Rattle.encoding.specs.Matrix.{nodeBlock}
 use Rattle.lists.specs.Lists.{isLive}
 use Rattle.pairing.specs.Pairs.{pairCount, mostPairs, LiveNode}
 use Rattle.pairing.specs.Claims.{IsPair}
-use Rattle.planning.specs.Plan.{RepairedIn, wavesOf}
+use Rattle.planning.specs.Plan.{RepairedIn}
+use Rattle.waves.specs.Waves.{wavesOf}
 use Rattle.repair.specs.declared.Session.{Session}
 use Rattle.repair.specs.Session.{Arrays, nodeCountOf}
 use Rattle.repair.specs.Pairs.{pairsFound}

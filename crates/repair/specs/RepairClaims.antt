@@ -12,8 +12,9 @@ use Rattle.encoding.specs.Matrix.{nodeBlock}
 use Rattle.lists.specs.Lists.{someOutside, rises, isLive, someMissing}
 use Rattle.planning.specs.Claims.{CanMake, PlanRoundsClaims}
 use Rattle.pairing.specs.Pairs.{NoPairLeft}
-use Rattle.planning.specs.Plan.{Step, wavesOf, lastRound}
+use Rattle.planning.specs.Plan.{Step, lastRound}
 use Rattle.planning.specs.Made.{stepsIn}
+use Rattle.waves.specs.Waves.{RoundsAndWaves}
 use Rattle.repair.specs.declared.Session.{Session}
 use Rattle.repair.specs.Session.{afresh, Arrays, nodeCountOf, unsound}
 use Rattle.repair.specs.Boxed.{writtenLength, written}
@@ -82,12 +83,13 @@ PlanWritesClaim = (s : Session) (out : List ℕ) → planned s out .refusal ≡ 
 
 -- of the rounds of a session's plan
 pub record RoundsClaims (s : Session) : Type 0 where
-  -- they are as K11 says: in each no node is read twice, none before the last is empty, and they leave the nodes that the waves leave
+  -- they are as K11 says: in each no node is read twice, and none before the last is empty
   pub each : unsound s ≡ false → PlanRoundsClaims (familyOf (s .family)) (s .k) (s .live)
-  -- plan and run, where accepted, give the last step's, which is at least the last wave
+  -- they leave the nodes that the waves leave, and are at least as many
+  pub waves : unsound s ≡ false → RoundsAndWaves (familyOf (s .family)) (s .k) (s .live)
+  -- plan and run, where accepted, give the last step's
   pub plan : (out : List ℕ) → planned s out .refusal ≡ 0 → planned s out .rounds ≡ lastRound (planIn s)
   pub run : (nodes : List ℕ) → ran s nodes .refusal ≡ 0 → ran s nodes .rounds ≡ lastRound (planIn s)
-  pub waves : unsound s ≡ false → lastRound (wavesOf (familyOf (s .family)) (s .k) (s .live)) ≤ lastRound (planIn s)
   -- accepted or not, there are at most as many as steps
   pub plan-few : (out : List ℕ) → planned s out .rounds ≤ planned s out .steps
   pub run-few : (nodes : List ℕ) → ran s nodes .rounds ≤ ran s nodes .steps

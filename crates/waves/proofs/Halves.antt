@@ -17,7 +17,7 @@ use Rattle.families.specs.declared.Family.{Family}
 use Rattle.families.specs.Families.{KInRange, IsNode, columnOf, nodeOf, areRelated}
 use Rattle.families.proofs.Laws.{ZeroOrNode, Known, nothing, of-node, column, column-once, node-of}
 use Rattle.lists.specs.Lists.{isLive}
-use Rattle.planning.proofs.WaveLaws.{afterWaves, waves-keep, waves-only, waves-get}
+use Rattle.waves.proofs.WaveLaws.{afterWaves, waves-keep, waves-only, waves-get}
 use Rattle.waves.specs.Waves.{SumOf, Reached}
 use Rattle.waves.proofs.Sums.{Parts, sum-more, sum-is, sum-one, one-is, sum-join}
 

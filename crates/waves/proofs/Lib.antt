@@ -1,3 +1,6 @@
+pub mod RepairedLaws
+pub mod WaveLaws
+pub mod Against
 pub mod Sums
 pub mod Halves
 pub mod Full

@@ -15,9 +15,14 @@ use Rattle.families.specs.declared.Family.the-variants.{Simplex, WeightTwo, Tet
 use Rattle.families.specs.Families.{KInRange, IsNode, nodeCount}
 use Rattle.families.proofs.Laws.{short}
 use Rattle.lists.specs.Lists.{isLive}
-use Rattle.planning.specs.Plan.{RepairedIn, marksAfter, wavesOf}
-use Rattle.planning.proofs.WaveLaws.{afterWaves, rounds-are-waves, waves-stay, Turn, Turned, step-turn, turn-step, last-within}
-use Rattle.waves.specs.Waves.{Reached, LeastReached, mostWaves, WaveClaim}
+use Rattle.pairing.proofs.PairLaws.{smaller-some}
+use Rattle.pairing.proofs.NoneLaws.{count-some, some-count}
+use Rattle.planning.specs.Plan.{Step, RepairedIn, marksAfter}
+use Rattle.planning.proofs.MakeLaws.{pair-repairs}
+use Rattle.waves.proofs.WaveLaws.{afterWaves, rounds-are-waves, waves-stay, waves-only, waves-get, Turn, Turned, step-turn, turn-step, first-step, last-within}
+use Rattle.waves.proofs.RepairedLaws.{repaired-pair}
+use Rattle.waves.proofs.Against.{same-marks, wave-first, waves-few}
+use Rattle.waves.specs.Waves.{wavesOf, Reached, LeastReached, mostWaves, WaveClaim, RoundsAndWavesClaim, FirstWaveClaim}
 use Rattle.waves.proofs.Sums.{sum-more, sum-few}
 use Rattle.waves.proofs.Halves.{Halving, liveAfter, upward, downward}
 use Rattle.waves.proofs.Full.{simplex-halving, tetrahedron-halving}
@@ -121,4 +126,31 @@ wave-claim f k range marks size =
         (λ none. is-false (isLive (marksAfter marks (wavesOf f k marks)) j) (λ h. none (nodeCount f k) (up f k range marks size (nodeCount f k) j n (sym (in-the-end f k range marks size j) ∙ h)))),
       );
       few-waves = last-within (mostWaves k) (wavesOf f k marks) (λ j r s. least-few f k range marks size j r (step-least f k range marks size j r s));
+    }
+
+pub rounds-and-waves : RoundsAndWavesClaim
+rounds-and-waves f k range marks size =
+    record {
+      same-left = same-marks f k range marks size;
+      no-sooner = λ j r w p q. wave-first f k range marks size j r w p q;
+      waves = waves-few f k range marks size;
+    }
+
+pub first-wave-claim : FirstWaveClaim
+unfolding wavesOf afterWaves
+first-wave-claim f k range marks size =
+    record {
+      repaired = λ j. (
+        (λ h.
+            let t = step-turn f k range (nodeCount f k) 1 marks size j 1 h in
+            let e : t .after ≡ 0 = omega (arith, t .is) in
+            let turn : Turn f k marks 0 j = rw e at (t .turn) in
+            let p = waves-only f k range marks 0 j (turn .missing) (turn .live) in
+            (turn .node, turn .missing, count-some f k marks j (smaller-some f k marks j range (turn .node) (p .one) (p .other) (p .one-live) (p .other-live) (p .related)))),
+        (λ h.
+            let p = repaired-pair f k range marks j (pair-repairs f k marks marks j (h .1) (some-count f k marks j (h .2))) in
+            turn-step f k (nodeCount f k) 1 marks 0 j (omega (arith, h .0 .first, h .0 .last)) (record { node = h .0; missing = h .1; live = waves-get f k range marks size 0 j (h .0) p })),
+      );
+      smaller = λ step h e. ap (λ (step : Step). step .smaller) (first-step f k range (nodeCount f k) 1 marks step h e);
+      larger = λ step h e. ap (λ (step : Step). step .larger) (first-step f k range (nodeCount f k) 1 marks step h e);
     }

@@ -1,18 +1,28 @@
--- Which round a node returns in (document 02, K9), of document 01's rounds, which are called waves, and of which the plan is made.
--- proofs/Proved.antt has the proofs.
+-- Waves: document 01's rounds, in which a live node may be read by any number of repairs (document 02, K11). Which wave a node returns in
+-- (document 02, K9), and what waves say of rounds. proofs/Proved.antt has the proofs.
 use mathlib.Core.Path.{_≡_}
 use mathlib.Core.Bool.{Bool, false, cond}
-use mathlib.Core.List.{List}
+use mathlib.Core.List.{List, List·Memᴰ}
 use mathlib.Core.Logic.{_↔_}
 use Prim.Native.Nat.{ℕ, _^_, _≤_, _<_}
 use lib.Dec.{leb}
 use lib.ListN.{length}
 use Rattle.base.specs.Numbers.{Each, xorOf}
 use Rattle.families.specs.declared.Family.{Family}
-use Rattle.families.specs.Families.{KInRange, IsNode, columnOf}
+use Rattle.families.specs.Families.{KInRange, IsNode, nodeCount, columnOf}
 use Rattle.lists.specs.Lists.{isLive}
-use Rattle.pairing.specs.Pairs.{LiveNode}
-use Rattle.planning.specs.Plan.{RepairedIn, marksAfter, wavesOf, lastRound}
+use Rattle.pairing.specs.Pairs.{pairCount, pairsOf, LiveNode}
+use Rattle.planning.specs.Plan.{Step, Reading, RepairedIn, marksAfter, roundsFrom, planOf, lastRound}
+
+-- all nodes may be read again after a step
+abbrev pub often : Reading
+often free step = free
+
+-- the waves from marks: n are enough, as with rounds
+unfoldable pub wavesOf : Family → ℕ → List Bool → List Step
+wavesOf f k marks = roundsFrom often f k 1 marks (nodeCount f k)
+
+-- ---- which wave a node returns in
 
 -- c is the XOR of the columns of at most m live nodes
 pub record SumOf (f : Family) (k : ℕ) (marks : List Bool) (m c : ℕ) : Type 0 where
@@ -46,3 +56,30 @@ pub record WaveClaims (f : Family) (k : ℕ) (marks : List Bool) : Type 0 where
 -- of every family, every k in its range and all marks
 abbrev pub WaveClaim : Type 0
 WaveClaim = (f : Family) (k : ℕ) → KInRange f k → (marks : List Bool) → length marks ≡ 256 → WaveClaims f k marks
+
+-- ---- rounds and waves
+
+-- of the plan from marks, and the waves
+pub record RoundsAndWaves (f : Family) (k : ℕ) (marks : List Bool) : Type 0 where
+  -- the marks after all rounds are those after all waves: the nodes left are the same
+  pub same-left : marksAfter marks (planOf f k marks) ≡ marksAfter marks (wavesOf f k marks)
+  -- no node returns in a round before its wave
+  pub no-sooner : (j r w : ℕ) → RepairedIn j r (planOf f k marks) → RepairedIn j w (wavesOf f k marks) → w ≤ r
+  -- and the rounds are at least as many as the waves
+  pub waves : lastRound (wavesOf f k marks) ≤ lastRound (planOf f k marks)
+
+abbrev pub RoundsAndWavesClaim : Type 0
+RoundsAndWavesClaim = (f : Family) (k : ℕ) → KInRange f k → (marks : List Bool) → length marks ≡ 256 → RoundsAndWaves f k marks
+
+-- ---- wave 1, and the count of pairs (document 02, K4)
+
+-- of wave 1 from marks
+pub record FirstWaveClaims (f : Family) (k : ℕ) (marks : List Bool) : Type 0 where
+  -- it repairs exactly the missing nodes that have a pair by the count
+  pub repaired : (j : ℕ) → RepairedIn j 1 (wavesOf f k marks) ↔ (IsNode f k j × (isLive marks j ≡ false) × (1 ≤ pairCount f k marks j))
+  -- and its steps read the pairs that the search gives
+  pub smaller : (step : Step) → List·Memᴰ step (wavesOf f k marks) → step .round ≡ 1 → step .smaller ≡ pairsOf f k marks (step .node) .smaller
+  pub larger : (step : Step) → List·Memᴰ step (wavesOf f k marks) → step .round ≡ 1 → step .larger ≡ pairsOf f k marks (step .node) .larger
+
+abbrev pub FirstWaveClaim : Type 0
+FirstWaveClaim = (f : Family) (k : ℕ) → KInRange f k → (marks : List Bool) → length marks ≡ 256 → FirstWaveClaims f k marks

@@ -1,13 +1,13 @@
 -- `planning::rounds::plan_round` meets its contract: each turn finds the round's next repair, until there is none. What the search goes
 -- by stands in the invariant.
 -- Assumes nothing.
-use mathlib.Core.Path.{_≡_, refl, sym, ap, _∙_}
-use mathlib.Core.List.{List, _++_, flatMap}
-use Prim.Native.Nat.{ℕ, suc, _+_, _-_, _*_, _≤_}
+use mathlib.Core.Path.{_≡_, refl, sym, _∙_}
+use mathlib.Core.List.{flatMap}
+use Prim.Native.Nat.{suc, _+_, _-_, _*_, _≤_}
 use native.Mathlib.Nat.{add-sub-cancel-left}
 use native.Mathlib.Omega.{arith}
 use denote.Ref.{now}
-use lib.ListN.{length, take, drop, length-take, take-append-drop}
+use lib.ListN.{length, take, length-take, take-append-drop}
 use Rattle.base.specs.Ranges.{firstFrom}
 use Rattle.blocks.proofs.PartLaws.{length-mid}
 use Rattle.families.specs.Families.{nodeCount}
@@ -147,7 +147,7 @@ loop-again c =
     let q : Place tie.After-read-pair = search in
     let b = t .loop .inv in
     let w = q .read-pair .ensures in
-    (b .0, rw (p .put-step .ensures, add-sub-cancel-left (e .args .from + 4 * t .loop .steps) 4, w .1 .1) (round-more (b .1) _ (found (search)) _ _ (w .0) (ap (λ (part : List ℕ). part ++ drop (t .loop .count) (t .loop .list)) (w .1 .0))))
+    (b .0, rw (p .put-step .ensures, add-sub-cancel-left (e .args .from + 4 * t .loop .steps) 4, w .1 .1) (round-more (b .1) _ (found (search)) _ _ (w .0) (w .1 .0)))
 
 pub plan-round-spec : {M : Type 1} → statement M
 plan-round-spec =

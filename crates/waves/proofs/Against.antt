@@ -17,15 +17,16 @@ use Rattle.lists.specs.Lists.{isLive, setLive}
 use Rattle.lists.proofs.Laws.{length-setLive}
 use Rattle.lists.proofs.MarkLaws.{live-keeps, live-listed, listed-live}
 use Rattle.pairing.specs.Pairs.{NoPairLeft}
 use Rattle.planning.specs.Claims.{CanMakeAll}
-use Rattle.planning.specs.Plan.{Step, RepairedIn, once, often, roundSteps, repairedNodes, marksAfter, roundsFrom, planOf, wavesOf, lastRound}
-use Rattle.planning.proofs.MakeLaws.{Within, once-shrinks, often-shrinks, length-marksAfter, left-few}
-use Rattle.planning.proofs.RepairedLaws.{LivePair}
+use Rattle.planning.specs.Plan.{Step, RepairedIn, once, roundSteps, repairedNodes, marksAfter, roundsFrom, planOf, lastRound}
+use Rattle.waves.specs.Waves.{often, wavesOf}
+use Rattle.planning.proofs.MakeLaws.{Within, once-shrinks, length-marksAfter, left-few}
+use Rattle.waves.proofs.RepairedLaws.{LivePair}
 use Rattle.planning.proofs.FreeLaws.{free-pair}
 use Rattle.planning.proofs.TurnLaws.{round-claims}
 use Rattle.planning.proofs.PlanLaws.{rounds-make, rounds-quiet}
 use Rattle.planning.proofs.RoundsLaws.{from-round, rounds-most}
-use Rattle.planning.proofs.WaveLaws.{afterWaves, waves-first, waves-size, waves-keep, waves-stay, waves-get, step-turn, last-within}
+use Rattle.waves.proofs.WaveLaws.{often-shrinks, afterWaves, waves-first, waves-size, waves-keep, waves-stay, waves-get, step-turn, last-within}
 
 -- ---- all rounds, and all waves
 

@@ -19,11 +19,15 @@ use Rattle.lists.specs.Lists.{isLive, setLive}
 use Rattle.lists.proofs.Laws.{length-setLive}
 use Rattle.lists.proofs.MarkLaws.{live-keeps, live-listed, listed-live}
 use Rattle.pairing.specs.Pairs.{smallerNode}
-use Rattle.planning.specs.Plan.{Step, RepairedIn, stepOf, often, stepsFor, roundSteps, repairedNodes, marksAfter, roundsFrom, lastRound}
-use Rattle.planning.proofs.MakeLaws.{often-shrinks, isRepaired, repaired-missing, live-kept, pairless-kept, pair-repairs, turn-waits, turn-repairs}
-use Rattle.planning.proofs.RepairedLaws.{LivePair, repaired-pair, pair-repaired}
+use Rattle.waves.specs.Waves.{often}
+use Rattle.planning.specs.Plan.{Step, RepairedIn, stepOf, stepsFor, roundSteps, repairedNodes, marksAfter, roundsFrom, lastRound}
+use Rattle.planning.proofs.MakeLaws.{Shrinks, isRepaired, repaired-missing, live-kept, pairless-kept, pair-repairs, turn-waits, turn-repairs}
+use Rattle.waves.proofs.RepairedLaws.{LivePair, repaired-pair, pair-repaired}
 use Rattle.planning.proofs.RoundLaws.{marks-append}
 use Rattle.planning.proofs.RoundsLaws.{first-steps}
+
+pub often-shrinks : Shrinks often
+often-shrinks free step i h = h
 
 module _ (f : Family) (k : ℕ) where
   -- the nodes that a wave repairs
