@@ -1,8 +1,8 @@
--- For inner functions: the place of each number in a list, marks turned round, and a list without two numbers.
+-- For inner functions: the place of each number in a list, marks turned round, and a list without one of its numbers.
 use Prim.Native.Nat.{ℕ, suc}
-use mathlib.Core.Bool.{Bool, cond, not, _||_}
-use mathlib.Core.List.{List, [], _∷_}
-use lib.Dec.{eqb}
+use mathlib.Core.Bool.{Bool, cond, not}
+use mathlib.Core.List.{List, _++_}
+use lib.ListN.{take, drop}
 use Rattle.base.specs.Ranges.{listFrom}
 use Rattle.lists.specs.Lists.{placeIn, isIn, isLive}
 
@@ -14,7 +14,6 @@ placesOf list = listFrom (λ j. cond (isIn list j) (suc (placeIn list j)) 0) 0 2
 unfoldable pub turnedRound : List Bool → List Bool
 turnedRound marks = listFrom (λ j. not (isLive marks j)) 0 256
 
--- a list without two numbers
-unfoldable pub without : ℕ → ℕ → List ℕ → List ℕ
-without a b [] = []
-without a b (x ∷ list) = cond (eqb x a || eqb x b) (without a b list) (x ∷ without a b list)
+-- a list without the number at a place
+abbrev pub withoutPlace : ℕ → List ℕ → List ℕ
+withoutPlace place list = take place list ++ drop (suc place) list

@@ -3,10 +3,10 @@ use base::wide;
 ghost use mathlib.Core.Path.{_≡_};
 ghost use mathlib.Core.Bool.{true};
 ghost use mathlib.Core.List.{_++_};
-ghost use Prim.Native.Nat.{_-_, _≤_};
+ghost use Prim.Native.Nat.{_-_, _≤_, _<_};
 ghost use lib.ListN.{length, drop, replicate};
 ghost use Rattle.checks.specs.Checks.{firstMet};
-ghost use Rattle.lists.specs.Inner.{turnedRound, without};
+ghost use Rattle.lists.specs.Inner.{turnedRound, withoutPlace};
 ghost use Rattle.lists.specs.Lists.{someOutside, rises, listChecks, placeIn, noneLive, setLive, someMissing, liveOutside, liveNodes, missingNodes};
 
 // Whether a node number of the list is 0 or above n.
@@ -198,24 +198,14 @@ pub fn list_missing(marks: &[bool; 256], n: usize) -> [u8; 256]
     list_live(&other, n)
 }
 
-// The numbers of a list without two of them, moved together at its front. Gives how many they are.
-pub fn leave_out(list: &mut [u8], a: usize, b: usize) -> usize
-    ensures { λ r. ⌜ r ≡ length (without a b (now (list .entry))) ⌝ }
-    ensures { λ _. ⌜ now (list .exit) ≡ without a b (now (list .entry)) ++ drop (length (without a b (now (list .entry)))) (now (list .entry)) ⌝ }
+// The number at a place left out: those after it moved down by one, so that the last stands twice.
+pub fn remove(list: &mut [u8], place: usize)
+    requires { ⌜ place < length (now list) ⌝ }
+    ensures { λ _. ⌜ now (list .exit) ≡ withoutPlace place (now (list .entry)) ++ drop (length (now (list .entry)) - 1) (now (list .entry)) ⌝ }
 {
-    let mut place: usize = 0;
-    let mut i: usize = 0;
-    while i < list.len() {
-        let number = list[i];
+    let mut i = place;
+    while i + 1 < list.len() {
+        list[i] = list[i + 1];
         i += 1;
-        if wide(number) == a {
-            continue;
-        }
-        if wide(number) == b {
-            continue;
-        }
-        list[place] = number;
-        place += 1;
     }
-    place
 }

@@ -1,6 +1,7 @@
 pub mod Steps
 pub mod MakeLaws
 pub mod RoundLaws
+pub mod ReadLaws
 pub mod SourceLaws
 pub mod PlanLaws
 pub mod PlannedLaws

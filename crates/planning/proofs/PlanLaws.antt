@@ -3,7 +3,7 @@
 -- Assumes nothing.
 use mathlib.Core.Path.{_≡_, refl, sym, ap, _∙_}
 use mathlib.Core.Bool.{Bool, not}
-use mathlib.Core.List.{List, List·Memᴰ, List·Memᴰ·head, List·Memᴰ·tail, List·Memᴰ·not-nil, [], _∷_, _++_, cons≢nil}
+use mathlib.Core.List.{List, List·Memᴰ, List·Memᴰ·head, List·Memᴰ·tail, List·Memᴰ·not-nil, List·Memᴰ·eq-of-singleton, [], _∷_, _++_, cons≢nil}
 use mathlib.Core.Logic.{_⊎_, inl, inr}
 use Prim.Native.Nat.{ℕ, zero, suc, _+_, _-_, _≤_, _<_}
 use native.Mathlib.Nat.{eq-zero-or-pos}
@@ -12,10 +12,10 @@ use lib.ListN.{length}
 use Rattle.base.proofs.RangeLaws.{those-has}
 use Rattle.families.specs.declared.Family.{Family}
 use Rattle.families.specs.Families.{KInRange, nodeCount}
-use Rattle.lists.specs.Lists.{isLive, setLive, missingNodes}
+use Rattle.lists.specs.Lists.{isLive, setLive, liveNodes, missingNodes}
 use Rattle.planning.specs.Claims.{CanMakeAll}
 use Rattle.pairing.specs.Pairs.{smallerNode, NoPairLeft}
-use Rattle.pairing.proofs.PairLaws.{smaller-some}
+use Rattle.pairing.proofs.PairLaws.{pair-of, smaller-some}
 use Rattle.planning.specs.Plan.{Step, Reading, stepsFor, roundSteps, marksAfter, roundsFrom, nodesLeft}
 use Rattle.planning.proofs.MakeLaws.{length-marksAfter, can-make-append, turn-waits, turn-repairs, Shrinks, round-makes, make-counts}
 use Rattle.planning.proofs.RoundLaws.{marks-append}
@@ -38,6 +38,23 @@ module _ (reading : Reading) (f : Family) (k : ℕ) (marks : List Bool) where
   unfolding stepsFor
   waiting r free [] h = refl
   waiting r free (x ∷ nodes) h = turn-waits f k marks free x reading r nodes (h x (List·Memᴰ·head refl)) ∙ waiting r free nodes (λ j m. h j (List·Memᴰ·tail m))
+
+  -- with fewer than two nodes to read they wait
+  pub all-read : KInRange f k → (r : ℕ) (free : List Bool) (nodes : List ℕ) → length (liveNodes free (nodeCount f k)) ≤ 1 → stepsFor reading f k marks r free nodes ≡ []
+  all-read range r free nodes h = waiting r free nodes (λ j m. go j (eq-zero-or-pos (smallerNode f k free j)))
+    where
+      alone : (list : List ℕ) → length list ≤ 1 → (a b : ℕ) → List·Memᴰ a list → List·Memᴰ b list → a < b → ⊥
+      alone [] l a b ma mb lt = List·Memᴰ·not-nil ma
+      alone (x ∷ []) l a b ma mb lt = omega (arith, List·Memᴰ·eq-of-singleton ma, List·Memᴰ·eq-of-singleton mb)
+      alone (x ∷ y ∷ list) l a b ma mb lt = omega arith
+
+      go : (j : ℕ) → (smallerNode f k free j ≡ 0) ⊎ (0 < smallerNode f k free j) → smallerNode f k free j ≡ 0
+      go j (inl e) = e
+      go j (inr g) =
+          let p = pair-of f k range free j g in
+          absurd
+          (alone (liveNodes free (nodeCount f k)) h _ _ (those-has (isLive free) 1 (nodeCount f k) _ (p .smaller .first) (omega (arith, p .smaller .last)) (p .smaller-live))
+          (those-has (isLive free) 1 (nodeCount f k) _ (p .larger .first) (omega (arith, p .larger .last)) (p .larger-live)) (p .order))
 
   -- whatever the round's number is
   pub none-again : (r s : ℕ) → roundSteps reading f k marks r ≡ [] → roundSteps reading f k marks s ≡ []

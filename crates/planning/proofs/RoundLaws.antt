@@ -11,7 +11,7 @@ use borrow.Author.Tests.{lt-ltb, ne-eqb}
 use borrow.Rule.Slice.PartMut.{putMid, same-len-mid}
 use lib.Dec.{ltb}
 use lib.ListN.{length, set, take, drop, length-append, length-replicate, getD-replicate, take-append-drop}
-use lib.Seq.{take-at}
+use lib.Seq.{take-append-le}
 use Rattle.base.specs.Ranges.{firstFrom, thoseFrom}
 use Rattle.base.proofs.First.{first-same, found}
 use Rattle.base.proofs.ListLaws.{length-zero, flatMap-append}
@@ -22,12 +22,11 @@ use Rattle.families.specs.declared.Family.{Family}
 use Rattle.families.specs.Families.{KInRange, IsNode, nodeCount}
 use Rattle.families.proofs.Laws.{few}
 use Rattle.lists.specs.Lists.{missingNodes, isLive, setLive, liveNodes}
-use Rattle.lists.specs.Inner.{without}
 use Rattle.lists.proofs.MarkLaws.{live-append}
-use Rattle.lists.proofs.WithoutLaws.{unset-live, without-live}
+use Rattle.lists.proofs.WithoutLaws.{unset-live}
 use Rattle.counts.specs.Counts.{noCounts, countOf}
 use Rattle.pairing.specs.declared.Found.{Found}
-use Rattle.pairing.specs.Pairs.{largerNode, smallerNode, pairCount}
+use Rattle.pairing.specs.Pairs.{largerNode, smallerNode, pairCount, LiveNode}
 use Rattle.pairing.specs.Inner.{countEach, nextFound, foundAt}
 use Rattle.pairing.proofs.PairLaws.{pair-of, pairs-are, smaller-some}
 use Rattle.pairing.proofs.EachLaws.{each-listed, each-other}
@@ -157,8 +156,9 @@ module _ (f : Family) (k : ℕ) (marks : List Bool) (r : ℕ) (free : List Bool)
 pub record Next (f : Family) (k : ℕ) (marks : List Bool) (r : ℕ) (free : List Bool) (node : ℕ) (x : Found) : Type 0 where
   pub above : node < x .node
   pub last : x .node ≤ nodeCount f k
-  pub smaller-last : x .pairs .smaller ≤ nodeCount f k
-  pub larger-last : x .pairs .larger ≤ nodeCount f k
+  pub order : x .pairs .smaller < x .pairs .larger
+  pub smaller-node : LiveNode f k free (x .pairs .smaller)
+  pub larger-node : LiveNode f k free (x .pairs .larger)
   pub steps : stepsAbove f k marks r free node ≡ asStep f k marks r free x ∷ stepsAbove f k marks r (set (set free (x .pairs .smaller) false) (x .pairs .larger) false) (x .node)
 
 module _ (f : Family) (k : ℕ) (marks : List Bool) (r : ℕ) (free : List Bool) (counts : List ℕ) (node : ℕ) (x : Found)
@@ -197,8 +197,9 @@ module _ (f : Family) (k : ℕ) (marks : List Bool) (r : ℕ) (free : List Bool)
           (record {
             above = w .from;
             last = omega (arith, w .from, w .below);
-            smaller-last = p .smaller .last;
-            larger-last = p .larger .last;
+            order = p .order;
+            smaller-node = record { node = p .smaller; live = p .smaller-live };
+            larger-node = record { node = p .larger; live = p .larger-live };
             steps = rw (are, t) at (rest .some g);
           })
 
@@ -254,36 +255,27 @@ module _ {f : Family} {k : ℕ} {marks : List Bool} {r : ℕ} {start : List ℕ}
     pub round-room : from + 4 * steps + 4 ≤ length out
     round-room = omega (arith, w .room, w .kept, total)
 
-    -- the list without the pair has the nodes that may be read next
-    module _ (part : List ℕ) (left : ℕ) where
-      abbrev kept-nodes : List ℕ
-      kept-nodes = without (x .pairs .smaller) (x .pairs .larger) (take count list)
-
-      pub round-more : left ≡ length kept-nodes → part ≡ kept-nodes ++ drop (length kept-nodes) (take count list)
-          → InRound f k marks r start from before (putMid (from + 4 * steps) 4 out (r ∷ x .node ∷ x .pairs .smaller ∷ x .pairs .larger ∷ [])) (set next (x .node) true) (part ++ drop count list) left rest-free (steps + 1) (x .node)
-      unfolding stepBytes flatMap setLive
-      round-more el ep =
-          let one = asStep f k marks r free x ∷ [] in
-          let after = w .done ++ one in
-          let l : length after ≡ length (w .done) + 1 = length-append (w .done) one in
-          let fours : 4 * (length (w .done) + 1) ≡ 4 * length (w .done) + 4 = omega arith in
-          let tail = drop (length kept-nodes) (take count list) ++ drop count list in
-          let em : part ++ drop count list ≡ kept-nodes ++ tail = ap (λ (l : List ℕ). l ++ drop count list) ep ∙ append-assoc kept-nodes (drop (length kept-nodes) (take count list)) (drop count list) in
-          record {
-            done = after;
-            split = w .split ∙ rw (n .steps, append-assoc (w .done) one (stepsAbove f k marks r rest-free (x .node)));
-            within = n .last;
-            count-is = omega (arith, w .count-is);
-            room = w .room;
-            kept = same-len-mid (from + 4 * steps) 4 out (r ∷ x .node ∷ x .pairs .smaller ∷ x .pairs .larger ∷ []) (sym (length-mid out (from + 4 * steps) 4 round-room)) ∙ w .kept;
-            bytes = rw (w .count-is, w .bytes, l, bytes-append (w .done) one, fours) (put-beside start (stepBytes (w .done)) (stepBytes one) from (4 * length (w .done)) 4 (omega (arith, round-room, w .kept)) (length-bytes (w .done)));
-            marked = rw (w .marked, marks-append before (w .done) one);
-            live = λ i v. w .live i (unset-live free (x .pairs .smaller) i (unset-live (set free (x .pairs .smaller) false) (x .pairs .larger) i v .1) .1);
-            fits = omega (arith, el, ap length em, length-append kept-nodes tail);
-            nodes =
-                rw em (take-at kept-nodes tail left (sym el)) ∙ ap (without (x .pairs .smaller) (x .pairs .larger)) (w .nodes)
-                ∙ without-live (x .pairs .smaller) (x .pairs .larger) free 1 (nodeCount f k);
-          }
+    pub round-more : (part : List ℕ) → length part ≡ count → take (count - 2) part ≡ liveNodes rest-free (nodeCount f k)
+        → InRound f k marks r start from before (putMid (from + 4 * steps) 4 out (r ∷ x .node ∷ x .pairs .smaller ∷ x .pairs .larger ∷ [])) (set next (x .node) true) (part ++ drop count list) (count - 2) rest-free (steps + 1) (x .node)
+    unfolding stepBytes flatMap setLive
+    round-more part size nodes =
+        let one = asStep f k marks r free x ∷ [] in
+        let after = w .done ++ one in
+        let l : length after ≡ length (w .done) + 1 = length-append (w .done) one in
+        let fours : 4 * (length (w .done) + 1) ≡ 4 * length (w .done) + 4 = omega arith in
+        record {
+          done = after;
+          split = w .split ∙ rw (n .steps, append-assoc (w .done) one (stepsAbove f k marks r rest-free (x .node)));
+          within = n .last;
+          count-is = omega (arith, w .count-is);
+          room = w .room;
+          kept = same-len-mid (from + 4 * steps) 4 out (r ∷ x .node ∷ x .pairs .smaller ∷ x .pairs .larger ∷ []) (sym (length-mid out (from + 4 * steps) 4 round-room)) ∙ w .kept;
+          bytes = rw (w .count-is, w .bytes, l, bytes-append (w .done) one, fours) (put-beside start (stepBytes (w .done)) (stepBytes one) from (4 * length (w .done)) 4 (omega (arith, round-room, w .kept)) (length-bytes (w .done)));
+          marked = rw (w .marked, marks-append before (w .done) one);
+          live = λ i v. w .live i (unset-live free (x .pairs .smaller) i (unset-live (set free (x .pairs .smaller) false) (x .pairs .larger) i v .1) .1);
+          fits = omega (arith, size, length-append part (drop count list));
+          nodes = take-append-le (count - 2) part (drop count list) (omega (arith, size)) ∙ nodes;
+        }
 
   pub round-done : stepsAbove f k marks r free node ≡ [] → roundSteps once f k marks r ≡ w .done
   round-done e = w .split ∙ rw (e, append-nil)

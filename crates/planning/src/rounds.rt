@@ -5,14 +5,14 @@ use pairing::Found;
 use pairing::count::count_missing;
 use pairing::search::find_next;
 ghost use mathlib.Core.Path.{_≡_};
-ghost use mathlib.Core.Bool.{false};
+ghost use mathlib.Core.Bool.{true, false};
 ghost use mathlib.Core.List.{[], _∷_, _++_};
-ghost use Prim.Native.Nat.{_+_, _*_, _≤_, _<_};
-ghost use lib.ListN.{length, set, drop};
+ghost use Prim.Native.Nat.{_+_, _-_, _*_, _≤_, _<_};
+ghost use lib.ListN.{length, set, take, drop};
 ghost use borrow.Rule.Slice.PartMut.{putMid};
 ghost use Rattle.families.specs.Families.{KInRange, nodeCount};
 ghost use Rattle.families.specs.Inner.{columnTable};
-ghost use Rattle.lists.specs.Inner.{without};
+ghost use Rattle.lists.specs.Lists.{isLive, liveNodes};
 ghost use Rattle.planning.specs.Plan.{once, roundSteps, marksAfter, planOf, stepBytes};
 ghost use Rattle.planning.specs.Inner.{plannedOf};
 
@@ -28,16 +28,28 @@ fn put_step(out: &mut [u8], round: usize, found: Found)
     out[3] = found.pairs.larger as u8;
 }
 
-// A pair is read: its nodes are free no more, and go from the list of those that are. Gives how many are left.
-fn read_pair(list: &mut [u8], free: &mut [bool; 256], smaller: usize, larger: usize) -> usize
-    requires { ⌜ (smaller < 256) × (larger < 256) ⌝ }
-    ensures { λ r. ⌜ r ≡ length (without smaller larger (now (list .entry))) ⌝ }
-    ensures { λ _. ⌜ now (list .exit) ≡ without smaller larger (now (list .entry)) ++ drop (length (without smaller larger (now (list .entry)))) (now (list .entry)) ⌝ }
+// A node is read: it is free no more, and goes from the list of the free ones, where as many stand before it as are free below it.
+fn read_node(list: &mut [u8], free: &mut [bool; 256], n: usize, node: usize)
+    requires { ⌜ (1 ≤ node) × (node ≤ n) × (n ≤ 255) × (isLive (now free) node ≡ true) ⌝ }
+    requires { ⌜ now list ≡ liveNodes (now free) n ⌝ }
+    ensures { λ _. ⌜ now (list .exit) ≡ liveNodes (set (now (free .entry)) node false) n ++ drop (length (now (list .entry)) - 1) (now (list .entry)) ⌝ }
+    ensures { λ _. ⌜ now (free .exit) ≡ set (now (free .entry)) node false ⌝ }
+{
+    let place = lists::count_live(free, node - 1);
+    lists::remove(list, place);
+    free[node] = false;
+}
+
+// A pair is read: the first two fewer of the list are the nodes that are still free.
+fn read_pair(list: &mut [u8], free: &mut [bool; 256], n: usize, smaller: usize, larger: usize)
+    requires { ⌜ (1 ≤ smaller) × (smaller < larger) × (larger ≤ n) × (n ≤ 255) ⌝ }
+    requires { ⌜ (isLive (now free) smaller ≡ true) × (isLive (now free) larger ≡ true) × (now list ≡ liveNodes (now free) n) ⌝ }
+    ensures { λ _. ⌜ take (length (now (list .entry)) - 2) (now (list .exit)) ≡ liveNodes (set (set (now (free .entry)) smaller false) larger false) n ⌝ }
     ensures { λ _. ⌜ now (free .exit) ≡ set (set (now (free .entry)) smaller false) larger false ⌝ }
 {
-    free[smaller] = false;
-    free[larger] = false;
-    lists::leave_out(list, smaller, larger)
+    let rest = list.len() - 1;
+    read_node(list, free, n, smaller);
+    read_node(&mut list[..rest], free, n, larger);
 }
 
 // The steps of a round, put into `out` from place `from` on, and their nodes live in `next`; `marks` are those when the round
@@ -64,28 +76,29 @@ fn plan_round(
     if count == n {
         return 0;
     }
+    if count < 2 {
+        return 0;
+    }
     let mut list = lists::list_live(marks, n);
     let counts = count_missing(family, k, columns, &list[..count], marks);
     let mut free = *marks;
     let mut steps: usize = 0;
     let mut node: usize = 0;
-    loop {
+    while 1 < count {
         let found = find_next(family, k, columns, &list[..count], &free, &counts, node);
         if found.node == 0 {
             return steps;
         }
         let at = from + 4 * steps;
         put_step(&mut out[at..at + 4], round, found);
-        count = read_pair(
-            &mut list[..count],
-            &mut free,
-            found.pairs.smaller,
-            found.pairs.larger,
-        );
+        let pair = found.pairs;
+        read_pair(&mut list[..count], &mut free, n, pair.smaller, pair.larger);
+        count -= 2;
         node = found.node;
         next[node] = true;
         steps += 1;
     }
+    steps
 }
 
 // The plan from the marks, put into `out`, which has room for a step for each node.
