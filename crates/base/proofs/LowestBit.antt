@@ -3,13 +3,13 @@
 use mathlib.Core.Path.{_≡_, sym, ap, ap₂, _∙_, subst}
 use mathlib.Core.Logic.{_⊎_, ⊎-elim}
 use Prim.Native.Nat.{ℕ, zero, suc, _+_, _-_, _*_, _/_, _%_, _^_, _<_}
-use native.Mathlib.Nat.{pow-suc, mul-assoc, mul-comm, mul-one, one-mul, add-mul, mul-div-cancel, mul-mod-left, mul-add-mod-self-right, zero-lt-suc, le-of-suc-le-suc, not-suc-le-zero, eq-zero-or-pos}
+use native.Mathlib.Nat.{pow-suc, mul-assoc, mul-comm, mul-one, one-mul, add-mul, mul-div-cancel, mul-mod-left, mod-self, mul-add-mod-self-right, zero-lt-suc, le-of-suc-le-suc, not-suc-le-zero, eq-zero-or-pos}
 use native.Mathlib.Decide.{decLt}
 use native.Mathlib.Omega.{arith}
 use lib.Arith.{bin-ind}
 use lib.Count.{trailingZeros}
-use lib.Pow.{pow-lt, pow-mono, pow-add}
-use lib.Bits.{bitXor, xor-shifted}
+use lib.Pow.{pow-pos, pow-lt, pow-mono, pow-add}
+use lib.Bits.{bitXor, bitAnd, xor-shifted, and-mask, and-block, and-self}
 
 -- an odd multiple of 2 ^ i, of which 2 ^ i is the lowest bit
 abbrev pub odd-multiple : ℕ → ℕ → ℕ
@@ -93,6 +93,19 @@ lowest w x h b =
 
     together : bitXor (x - 2 ^ o .bit) (2 ^ o .bit) ≡ x
     together = rw rest (xor-shifted (o .above) (suc (o .bit)) (2 ^ o .bit) (pow-lt (omega arith)) ∙ sym parts)
+
+-- without it: what the number and the one before it have in common
+pub without-lowest : (w x : ℕ) → 0 < x → x < 2 ^ w → bitAnd x (x - 1) ≡ x - 2 ^ trailingZeros w x
+without-lowest w x h b =
+    let l = lowest w x h b in
+    let t = trailingZeros w x in
+    let high = l .above * 2 ^ suc t in
+    let low : bitAnd (2 ^ t) (2 ^ t - 1) ≡ 0 = and-mask (2 ^ t) t ∙ mod-self (2 ^ t) in
+    let one = pow-pos t in
+    let less : x - 1 ≡ high + (2 ^ t - 1) = omega (arith, l .split, one) in
+    let rest : x - 2 ^ t ≡ high = omega (arith, l .split) in
+    ap₂ bitAnd (l .split) less ∙ and-block (suc t) (l .above) (l .above) (2 ^ t) (2 ^ t - 1) (pow-lt (omega arith)) (omega (arith, pow-suc 2 t, one))
+    ∙ rw (and-self (l .above), low) (omega (arith, rest))
 
 -- the lowest bit of a number with one bit, and with two
 pub lowest-power : (w i : ℕ) → i < w → trailingZeros w (2 ^ i) ≡ i

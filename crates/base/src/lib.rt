@@ -18,6 +18,14 @@ pub fn lowest_bit(x: usize) -> usize
     usize::trailing_zeros(x) as usize
 }
 
+// x without its lowest set bit.
+pub fn without_lowest(x: usize) -> usize
+    requires { ⌜ 0 < x ⌝ }
+    ensures { λ r. ⌜ r ≡ x - 2 ^ trailingZeros 64 x ⌝ }
+{
+    x & (x - 1)
+}
+
 // How many bits x has, up to its highest set bit; 0 for x = 0.
 pub fn bit_length(x: usize) -> usize
     ensures { λ r. ⌜ r ≡ 64 - leadingZeros 64 x ⌝ }

@@ -245,6 +245,9 @@ module _ (k c : ℕ) (r : KInRange WeightTwo k) (positive : 0 < c) (small : c < 
     pub high-within : trailingZeros 64 (c - lowBit c) < k
     high-within = high .within k (omega arith)
 
+    pub high-le : lowBit (c - lowBit c) ≤ c - lowBit c
+    high-le = omega (arith, high .split)
+
     pub two-bits : c - lowBit c ≡ lowBit (c - lowBit c) → TwoBits k c
     two-bits e = record { order = order; node = node-is WeightTwo k r c (pairNode k (t + 1) (u + 1)) (record { first = is .0; last = is .1 }) (pair-column k (t + 1) (u + 1) (omega arith) (omega (arith, order)) (omega (arith, high-within)) ∙ sum) }
       where

@@ -76,12 +76,12 @@ pub fn node_below(k: usize, column: usize) -> usize
         return 0;
     }
     let low = base::lowest_bit(column);
-    let rest = column - base::power(low);
+    let rest = base::without_lowest(column);
     if rest == 0 {
         return low + 1;
     }
     let high = base::lowest_bit(rest);
-    if rest != base::power(high) {
+    if base::without_lowest(rest) != 0 {
         return 0;
     }
     pair_node(k, low + 1, high + 1)
