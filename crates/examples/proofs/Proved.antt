@@ -119,7 +119,7 @@ Computed (Plans family k list steps rounds left reads) =
     (firstMet (startChecks family k 1 list) ≡ 0) × (unsound (sessionOf family k 1 list) ≡ false) × HasFigures (sessionOf family k 1 list) steps rounds left reads
 Computed (Pairs family k L list j number smaller larger count) = Holds (Pairs family k L list j number smaller larger count)
 Computed (Waves family k list steps) = Holds (Waves family k list steps)
-Computed (MostWaves least most rounds) = listFrom (λ i. mostWaves (least + i)) 0 (suc most - least) ≡ replicate (suc most - least) rounds
+Computed (MostWaves least most waves) = listFrom (λ i. mostWaves (least + i)) 0 (suc most - least) ≡ replicate (suc most - least) waves
 Computed (Starts family k L list number) = Holds (Starts family k L list number)
 Computed (BoxGives bytes number) = Holds (BoxGives bytes number)
 Computed (BoxReads box s after) =
@@ -164,11 +164,11 @@ holds (Plans family k list steps rounds left reads) (a, start, figures) = λ L h
     (rw (same, a), has-plan (sessionOf family k L list) steps rounds left reads (rw same start) figures)
 holds (Pairs family k L list j number smaller larger count) c = c
 holds (Waves family k list steps) c = c
-holds (MostWaves least most rounds) c = λ k h g.
+holds (MostWaves least most waves) c = λ k h g.
     let e : k ≡ least + (k - least) = omega arith in
     let l : k - least < suc most - least = omega arith in
     ap mostWaves e ∙ sym (getD-listFrom (λ i. mostWaves (least + i)) (suc most - least) (k - least) 0 l)
-    ∙ ap (λ (list : List ℕ). getD list (k - least) 0) c ∙ getD-replicate (suc most - least) (k - least) rounds 0 l
+    ∙ ap (λ (list : List ℕ). getD list (k - least) 0) c ∙ getD-replicate (suc most - least) (k - least) waves 0 l
 holds (Starts family k L list number) c = c
 holds (BoxGives bytes number) c = c
 holds (BoxReads box s after) (a, c) = (a, each _ _ c)

@@ -126,7 +126,7 @@ Holds (Plans family k list steps rounds left reads) =
 Holds (Pairs family k L list j number smaller larger count) =
     let s = sessionOf family k L list in pairsFound s j ≡ record { refusal = number; smaller = smaller; larger = larger; count = count; session = s }
 Holds (Waves family k list steps) = stepBytes (wavesOf (familyOf family) k (setLive noneLive list)) ≡ steps
-Holds (MostWaves least most rounds) = (k : ℕ) → least ≤ k → k ≤ most → mostWaves k ≡ rounds
+Holds (MostWaves least most waves) = (k : ℕ) → least ≤ k → k ≤ most → mostWaves k ≡ waves
 Holds (Starts family k L list number) = started family k L list .refusal ≡ number
 Holds (BoxGives bytes number) = checkedBox bytes .refusal ≡ number
 Holds (BoxReads box s after) =

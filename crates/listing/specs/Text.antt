@@ -29,7 +29,7 @@ firstLine family k L live = field (ascii "family ") family ++ (field (ascii " k 
 unfoldable pub stepLine : Step → List ℕ
 stepLine step = field [] (step .round) ++ (field (ascii " ") (step .node) ++ (field (ascii " ") (step .smaller) ++ (field (ascii " ") (step .larger) ++ ascii "\n")))
 
--- `steps 4 rounds 2 left 0`
+-- `steps 4 rounds 4 left 0`
 unfoldable pub lastLine : ℕ → ℕ → ℕ → List ℕ
 lastLine steps rounds left = field (ascii "steps ") steps ++ (field (ascii " rounds ") rounds ++ (field (ascii " left ") left ++ ascii "\n"))
 

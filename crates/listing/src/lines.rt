@@ -53,7 +53,7 @@ pub fn put_step_lines(steps: &[u8], count: usize, out: &mut [u8], at: usize) -> 
     next
 }
 
-// `steps 4 rounds 2 left 0`, from place `at` on.
+// `steps 4 rounds 4 left 0`, from place `at` on.
 pub fn put_last_line(steps: usize, rounds: usize, left: usize, out: &mut [u8], at: usize) -> usize
     requires { ⌜ at + length (lastLine steps rounds left) ≤ length (now out) ⌝ }
     ensures { λ r. ⌜ Put (now (out .entry)) at (lastLine steps rounds left) (now (out .exit)) r ⌝ }

@@ -198,7 +198,7 @@ pub fn list_missing(marks: &[bool; 256], n: usize) -> [u8; 256]
     list_live(&other, n)
 }
 
-// The number at a place left out: those after it moved down by one, so that the last stands twice.
+// The number at a place left out: those after it moved down by one. The last place keeps what it has.
 pub fn remove(list: &mut [u8], place: usize)
     requires { ⌜ place < length (now list) ⌝ }
     ensures { λ _. ⌜ now (list .exit) ≡ withoutPlace place (now (list .entry)) ++ drop (length (now (list .entry)) - 1) (now (list .entry)) ⌝ }

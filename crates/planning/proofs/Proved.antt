@@ -6,6 +6,7 @@ use mathlib.Core.List.{List, List·Memᴰ}
 use Prim.Native.Nat.{ℕ, _≤_}
 use native.Mathlib.Omega.{arith}
 use borrow.Author.Tests.{ne-eqb}
+use lib.ListN.{length}
 use Rattle.base.proofs.Tests.{not-both}
 use Rattle.families.specs.declared.Family.{Family}
 use Rattle.families.specs.Families.{KInRange, IsNode, nodeCount}
@@ -16,12 +17,12 @@ use Rattle.pairing.specs.Pairs.{pairCount}
 use Rattle.pairing.proofs.PairLaws.{smaller-some}
 use Rattle.pairing.proofs.NoneLaws.{count-some, some-count}
 use Rattle.planning.specs.Claims.{PlanClaim, PlanRoundsClaim, FirstRoundClaim, ReadsClaim, LiveReadsClaim}
-use Rattle.planning.specs.Plan.{Step, once, roundSteps, sourcesOf, timesRead, marksAfter, planOf, beforeRound}
+use Rattle.planning.specs.Plan.{Step, once, roundSteps, sourcesOf, timesRead, marksAfter, planOf, beforeRound, lastRound}
 use Rattle.planning.proofs.MakeLaws.{once-shrinks, make-counts, left-few}
 use Rattle.planning.proofs.SourceLaws.{length-sources, sources-inside, reads-are, times-few}
 use Rattle.planning.proofs.FreeLaws.{free-pair}
 use Rattle.planning.proofs.TurnLaws.{round-claims, first-turn}
-use Rattle.planning.proofs.RoundsLaws.{from-round, first-steps, first-listed, round-is, rounds-some, rounds-few, rounds-most}
+use Rattle.planning.proofs.RoundsLaws.{from-round, first-steps, first-listed, rounds-order, round-is, rounds-some, rounds-few, rounds-most}
 use Rattle.planning.proofs.PlanLaws.{rounds-end, rounds-make, rounds-quiet, rounds-enough}
 
 pub plan-claim : PlanClaim
@@ -41,10 +42,13 @@ pub plan-rounds-claim : PlanRoundsClaim
 unfolding planOf
 plan-rounds-claim f k range marks size =
     let n : ℕ = nodeCount f k in
+    let few-rounds : lastRound (planOf f k marks) ≤ length (planOf f k marks) = omega (arith, rounds-few once once-shrinks f k n 0 marks) in
     record {
       each = λ r l. rw (round-is once once-shrinks f k range n 1 marks size (left-few marks n) r l) (round-claims f k (marksAfter marks (beforeRound r (planOf f k marks))) r range);
+      order = λ r. rounds-order once once-shrinks f k n 1 marks r;
       some = λ r l h. rounds-some once once-shrinks f k n 1 marks (omega arith) r l h;
-      few = omega (arith, rounds-few once once-shrinks f k n 0 marks);
+      few = few-rounds;
+      byte = omega (arith, few-rounds, plan-claim f k range marks size .counts, left-few marks n, few f k range);
       within = λ step h. (from-round once once-shrinks f k n 1 marks step h, rounds-most once once-shrinks f k n 1 marks step h);
     }
 

@@ -3,18 +3,18 @@
 -- Assumes nothing.
 use mathlib.Core.Path.{_≡_, refl, sym, ap, ap₂, _∙_}
 use mathlib.Core.Bool.{Bool}
-use mathlib.Core.List.{List, List·Memᴰ, List·Memᴰ·head, List·Memᴰ·tail, List·Memᴰ·not-nil, List·Memᴰ·append-cases, Memᴰ·append-left, [], _∷_, _++_, append-nil, getLastD}
+use mathlib.Core.List.{List, List·Memᴰ, List·Memᴰ·head, List·Memᴰ·tail, List·Memᴰ·not-nil, List·Memᴰ·append-cases, Memᴰ·append-left, [], _∷_, _++_, append-assoc, append-nil, getLastD}
 use mathlib.Core.Logic.{_⊎_, inl, inr}
 use Prim.Native.Nat.{ℕ, zero, suc, _+_, _≤_, _<_}
-use native.Mathlib.Decide.{ℕ-discrete}
+use native.Mathlib.Decide.{ℕ-discrete, decLt}
 use native.Mathlib.Omega.{arith}
-use borrow.Author.Tests.{lt-ltb, le-ltb, eq-eqb, ne-eqb}
-use lib.Dec.{eqb, ltb}
+use borrow.Author.Tests.{lt-ltb, le-ltb, lt-leb, le-leb, eq-eqb, ne-eqb}
+use lib.Dec.{eqb, leb, ltb}
 use lib.ListN.{length, length-append}
 use Rattle.families.specs.declared.Family.{Family}
 use Rattle.families.specs.Families.{KInRange, nodeCount}
 use Rattle.lists.specs.Lists.{missingNodes, setLive}
-use Rattle.planning.specs.Plan.{Step, Reading, roundSteps, marksAfter, roundsFrom, stepsWith, inRound, beforeRound, lastRound, nodesLeft}
+use Rattle.planning.specs.Plan.{Step, Reading, roundSteps, marksAfter, roundsFrom, stepsWith, inRound, beforeRound, fromRound, lastRound, nodesLeft}
 use Rattle.planning.proofs.MakeLaws.{each-step, Shrinks}
 use Rattle.planning.proofs.RoundLaws.{marks-append}
 use Rattle.planning.proofs.PlanLaws.{none-or-some, afterRound, none-again, none-missing, rounds-end, rounds-suc, round-counts, after-size}
@@ -97,6 +97,26 @@ module _ (reading : Reading) (shrinks : Shrinks reading) (f : Family) (k : ℕ) 
           ∙ ap (λ (t : List Step). t ++ beforeRound r (rest marks s m)) (with-all (λ (step : Step). ltb (step .round) r) (now marks s) (λ step h. lt-ltb (step .round) r (omega (arith, own marks s step h))))
 
   -- ---- all of them
+
+  -- the steps of the rounds before r stand before the others
+  pub rounds-order : (m s : ℕ) (marks : List Bool) (r : ℕ) → rounds s marks m ≡ beforeRound r (rounds s marks m) ++ fromRound r (rounds s marks m)
+  unfolding roundsFrom stepsWith
+  rounds-order zero s marks r = refl
+  rounds-order (suc m) s marks r = go (decLt s r) (rounds-order m (suc s) (afterRound reading shrinks f k marks s) r)
+    where
+      all : List Step
+      all = rounds s marks (suc m)
+
+      go : Dec (s < r) → rest marks s m ≡ beforeRound r (rest marks s m) ++ fromRound r (rest marks s m) → all ≡ beforeRound r all ++ fromRound r all
+      go (no n) e =
+          let from : (step : Step) → List·Memᴰ step all → r ≤ step .round = λ step h. let q = from-round (suc m) s marks step h in omega arith in
+          sym (ap₂ _++_ (with-none (λ (step : Step). ltb (step .round) r) all (λ step h. le-ltb (step .round) r (from step h))) (with-all (λ (step : Step). leb r (step .round)) all (λ step h. le-leb r (step .round) (from step h))))
+      go (yes l) e =
+          let later : fromRound r all ≡ fromRound r (rest marks s m) =
+          ap (fromRound r) (rounds-suc reading shrinks f k marks s m) ∙ with-append (λ (step : Step). leb r (step .round)) (now marks s) (rest marks s m)
+          ∙ ap (λ (t : List Step). t ++ fromRound r (rest marks s m)) (with-none (λ (step : Step). leb r (step .round)) (now marks s) (λ step h. lt-leb r (step .round) (omega (arith, own marks s step h)))) in
+          rounds-suc reading shrinks f k marks s m ∙ ap (λ (t : List Step). now marks s ++ t) e
+          ∙ sym (append-assoc (now marks s) (beforeRound r (rest marks s m)) (fromRound r (rest marks s m))) ∙ sym (ap₂ _++_ (before-later marks s m r l) later)
 
   module _ (range : KInRange f k) where
     -- the steps of round r are those of a round that begins with what the rounds before leave

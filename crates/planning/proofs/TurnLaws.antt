@@ -263,7 +263,7 @@ module _ (f : Family) (k : ℕ) (marks : List Bool) (r : ℕ) where
           pair = pair-given;
           least = least-given;
           waits = waits-without;
-          once = read-once;
+          not-twice = read-once;
         }
 
     -- a node with a pair, before whose turn no node is repaired, has all nodes to be read from

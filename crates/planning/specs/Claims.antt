@@ -1,7 +1,7 @@
 -- What is proved of every plan besides the contracts; proofs/Proved.antt has the proofs.
 use mathlib.Core.Path.{_≡_}
 use mathlib.Core.Bool.{Bool, true, false}
-use mathlib.Core.List.{List, List·Memᴰ, [], _∷_}
+use mathlib.Core.List.{List, List·Memᴰ, [], _∷_, _++_}
 use mathlib.Core.Logic.{_↔_}
 use Prim.Native.Nat.{ℕ, _+_, _*_, _≤_, _<_}
 use lib.ListN.{length, set}
@@ -11,7 +11,7 @@ use Rattle.lists.specs.Lists.{isLive, rises}
 use Rattle.counts.specs.Counts.{countOf, countAll, sumOf}
 use Rattle.pairing.specs.Pairs.{pairCount, pairsOf, NoPairLeft}
 use Rattle.pairing.specs.Claims.{IsPair}
-use Rattle.planning.specs.Plan.{Step, RepairedIn, once, roundSteps, freeAfter, repairedNodes, sourcesOf, timesRead, marksAfter, roundsFrom, planOf, inRound, beforeRound, beforeNode, lastRound, nodesLeft}
+use Rattle.planning.specs.Plan.{Step, RepairedIn, once, roundSteps, freeAfter, repairedNodes, sourcesOf, timesRead, marksAfter, roundsFrom, planOf, inRound, beforeRound, fromRound, beforeNode, lastRound, nodesLeft}
 
 -- a step that can be made: it names a missing node and two live nodes related to it
 pub record CanMake (f : Family) (k : ℕ) (marks : List Bool) (step : Step) : Type 0 where
@@ -68,16 +68,20 @@ pub record RoundClaims (f : Family) (k : ℕ) (marks : List Bool) (steps : List 
   -- a missing node that waits had none when its turn came
   pub waits : (j : ℕ) → IsNode f k j → isLive marks j ≡ false → (List·Memᴰ j (repairedNodes steps) → ⊥) → (a b : ℕ) → FreePair f k marks steps j a b → ⊥
   -- no node is read twice
-  pub once : (i : ℕ) → timesRead i steps ≤ 1
+  pub not-twice : (i : ℕ) → timesRead i steps ≤ 1
 
 -- of the rounds of the plan from marks
 pub record PlanRoundsClaims (f : Family) (k : ℕ) (marks : List Bool) : Type 0 where
   -- each begins with the marks that those before it leave
   pub each : (r : ℕ) → 1 ≤ r → RoundClaims f k (marksAfter marks (beforeRound r (planOf f k marks))) (inRound r (planOf f k marks))
-  -- each as far as the last repairs a node
+  -- rounds never fall: the steps of those before r stand before all others
+  pub order : (r : ℕ) → planOf f k marks ≡ beforeRound r (planOf f k marks) ++ fromRound r (planOf f k marks)
+  -- each from the first to the last repairs a node
   pub some : (r : ℕ) → 1 ≤ r → r ≤ lastRound (planOf f k marks) → 1 ≤ length (inRound r (planOf f k marks))
-  -- so that they are at most as many as the steps, and a round's number fits its byte
+  -- so that they are at most as many as the steps
   pub few : lastRound (planOf f k marks) ≤ length (planOf f k marks)
+  -- and a round's number fits its byte
+  pub byte : lastRound (planOf f k marks) ≤ 255
   -- and a step's round is one of them
   pub within : (step : Step) → List·Memᴰ step (planOf f k marks) → (1 ≤ step .round) × (step .round ≤ lastRound (planOf f k marks))
 

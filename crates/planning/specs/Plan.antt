@@ -3,7 +3,7 @@ use mathlib.Core.Path.{_≡_}
 use mathlib.Core.Bool.{Bool, false, cond, _||_}
 use mathlib.Core.List.{List, List·Memᴰ, [], _∷_, _++_, map, flatMap, getLastD}
 use Prim.Native.Nat.{ℕ, zero, suc, _+_}
-use lib.Dec.{eqb, ltb}
+use lib.Dec.{eqb, leb, ltb}
 use lib.ListN.{length, set}
 use Rattle.families.specs.declared.Family.{Family}
 use Rattle.families.specs.Families.{nodeCount}
@@ -85,12 +85,15 @@ unfoldable pub stepsWith : (Step → Bool) → List Step → List Step
 stepsWith test [] = []
 stepsWith test (step ∷ steps) = cond (test step) (step ∷ stepsWith test steps) (stepsWith test steps)
 
--- those of round r, those of the rounds before it, and those that repair a node below j
+-- those of round r, those of the rounds before it, those from it on, and those that repair a node below j
 abbrev pub inRound : ℕ → List Step → List Step
 inRound r steps = stepsWith (λ (step : Step). eqb (step .round) r) steps
 
 abbrev pub beforeRound : ℕ → List Step → List Step
 beforeRound r steps = stepsWith (λ (step : Step). ltb (step .round) r) steps
+
+abbrev pub fromRound : ℕ → List Step → List Step
+fromRound r steps = stepsWith (λ (step : Step). leb r (step .round)) steps
 
 abbrev pub beforeNode : ℕ → List Step → List Step
 beforeNode j steps = stepsWith (λ (step : Step). ltb (step .node) j) steps

@@ -40,7 +40,7 @@ fn read_node(list: &mut [u8], free: &mut [bool; 256], n: usize, node: usize)
     free[node] = false;
 }
 
-// A pair is read: the first two fewer of the list are the nodes that are still free.
+// A pair is read: the nodes that are still free stand in all of the list but its last two places.
 fn read_pair(list: &mut [u8], free: &mut [bool; 256], n: usize, smaller: usize, larger: usize)
     requires { ⌜ (1 ≤ smaller) × (smaller < larger) × (larger ≤ n) × (n ≤ 255) ⌝ }
     requires { ⌜ (isLive (now free) smaller ≡ true) × (isLive (now free) larger ≡ true) × (now list ≡ liveNodes (now free) n) ⌝ }

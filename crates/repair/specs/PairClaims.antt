@@ -38,7 +38,7 @@ pub record PairsClaims (s : Session) (j : ℕ) : Type 0 where
   pub read : 1 ≤ pairsFound s j .count → (object nodes : List ℕ) → length object ≡ s .k * s .len → LiveAreOwn object s nodes
       → xorBytes (blockOf (s .len) nodes (pairsFound s j .smaller)) (blockOf (s .len) nodes (pairsFound s j .larger))
       ≡ nodeBlock (s .k) (s .len) object (columnOf (familyOf (s .family)) (s .k) j)
-  -- a missing node: round 1 of the plan repairs it where the count is above 0 alone, and the first node of these from the pair
+  -- a missing node: round 1 of the plan repairs it only where the count is above 0, and the first such node from the pair
   pub round-1 : RepairedIn j 1 (planIn s) → 1 ≤ pairsFound s j .count
   pub first : isLive (s .live) j ≡ false → 1 ≤ pairsFound s j .count
       → ((i : ℕ) → IsNode (familyOf (s .family)) (s .k) i → isLive (s .live) i ≡ false → i < j → pairsFound s i .count ≡ 0)

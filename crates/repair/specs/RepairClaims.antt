@@ -83,7 +83,7 @@ PlanWritesClaim = (s : Session) (out : List ℕ) → planned s out .refusal ≡ 
 
 -- of the rounds of a session's plan
 pub record RoundsClaims (s : Session) : Type 0 where
-  -- they are as K11 says: in each no node is read twice, and none before the last is empty
+  -- they are as K11 says: in each no node is read twice, and each from the first to the last repairs a node
   pub each : unsound s ≡ false → PlanRoundsClaims (familyOf (s .family)) (s .k) (s .live)
   -- they leave the nodes that the waves leave, and are at least as many
   pub waves : unsound s ≡ false → RoundsAndWaves (familyOf (s .family)) (s .k) (s .live)
