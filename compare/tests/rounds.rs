@@ -135,6 +135,18 @@ fn the_models_plans_are_as_the_request_says() {
     assert_eq!(sets, SETS_OF_SMALL + OTHER_CODES * CHOICES.len() * TIMES);
 }
 
+/// The right steps with a round too many or too few.
+#[test]
+fn a_number_of_rounds_that_differs_is_told() {
+    small_sets(|code, live| {
+        let session = session_of(code, &live);
+        let planner::Plan { steps, rounds, .. } = plan_of(&session);
+        assert!(rounds::check(&session, &steps, rounds + 1).is_err());
+        let fewer = rounds.checked_sub(1);
+        assert!(fewer.is_none_or(|fewer| rounds::check(&session, &steps, fewer).is_err()));
+    });
+}
+
 /// A plan's steps made into others; they stay where there is nothing to change so.
 type Change = fn(&Session, Vec<Step>) -> Vec<Step>;
 
