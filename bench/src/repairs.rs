@@ -210,7 +210,7 @@ pub fn pairs(some_lost: &[Case], meter: &mut Meter) -> Table {
 }
 
 /// A repair of every node of simplex 8 from its data nodes.
-fn run(len: usize, goals: [Option<f64>; 3], random: &mut Random, meter: &mut Meter) -> Line {
+fn run(len: usize, random: &mut Random, meter: &mut Meter) -> Line {
     let (family, k) = (Family::Simplex, 8);
     let shape = Shape {
         family: family as usize,
@@ -242,23 +242,17 @@ fn run(len: usize, goals: [Option<f64>; 3], random: &mut Random, meter: &mut Met
     let ways: [Way; 4] = [&mogtriz, &rust, &isal, &planned];
     Line {
         name: family.name(k, format!("L {len}")),
-        goals: goals.to_vec(),
+        // the goal is against Rust that plans by the same rule; the others are handed their steps
+        goals: vec![None, None, Some(1.0)],
         measured: meter.compare_and_measure(&ways, &[], &mut nodes, &expected, 0),
     }
 }
 
 pub fn runs(random: &mut Random, meter: &mut Meter) -> Table {
-    let cases = [
-        (64, [None; 3]),
-        (512, [Some(1.9), Some(1.9), None]),
-        (1536, [Some(1.3), Some(1.5), None]),
-    ];
     Table {
         title: "run",
         ways: &["Mogtriz", "Rust", "ISA-L", "Rust plan"],
-        lines: cases
-            .map(|(len, goals)| run(len, goals, random, meter))
-            .into(),
+        lines: [64, 512, 1536].map(|len| run(len, random, meter)).into(),
     }
 }
 
