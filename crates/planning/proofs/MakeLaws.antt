@@ -93,6 +93,20 @@ each-step reading f k marks r free (j ∷ nodes) step m = go (eqb (stepOf f k ma
     go false (List·Memᴰ·head e) later = (ap (λ (s : Step). s .round) e, List·Memᴰ·head (ap (λ (s : Step). s .node) e))
     go false (List·Memᴰ·tail t) later = let q = later (reading free now) t in (q .0, List·Memᴰ·tail (q .1))
 
+-- there is a step for each of them at most
+pub steps-few : (reading : Reading) (f : Family) (k : ℕ) (marks : List Bool) (r : ℕ) (free : List Bool) (nodes : List ℕ) → length (stepsFor reading f k marks r free nodes) ≤ length nodes
+unfolding stepsFor
+steps-few reading f k marks r free [] = omega arith
+steps-few reading f k marks r free (j ∷ nodes) = go (eqb (stepOf f k marks free r j .smaller) 0) (λ rest. steps-few reading f k marks r rest nodes)
+  where
+    now : Step
+    now = stepOf f k marks free r j
+
+    go : (b : Bool) → ((rest : List Bool) → length (stepsFor reading f k marks r rest nodes) ≤ length nodes)
+        → length (cond b (stepsFor reading f k marks r free nodes) (now ∷ stepsFor reading f k marks r (reading free now) nodes)) ≤ suc (length nodes)
+    go true later = omega (arith, later free)
+    go false later = omega (arith, later (reading free now))
+
 -- ---- the steps of a round
 
 -- every node that may be read is live

@@ -29,11 +29,12 @@ use Rattle.pairing.specs.declared.Found.{Found}
 use Rattle.pairing.specs.Pairs.{largerNode, smallerNode, pairCount, LiveNode}
 use Rattle.pairing.specs.Inner.{countEach, nextFound, foundAt}
 use Rattle.pairing.proofs.PairLaws.{pair-of, pairs-are, smaller-some}
+use Rattle.pairing.proofs.ListedLaws.{missing-count}
 use Rattle.pairing.proofs.EachLaws.{each-listed, each-other}
 use Rattle.pairing.proofs.NoneLaws.{count-some}
 use Rattle.pairing.proofs.SearchLaws.{isFound}
 use Rattle.planning.specs.Plan.{Step, stepOf, Reading, once, stepsFor, roundSteps, repairedNodes, marksAfter, stepBytes}
-use Rattle.planning.proofs.MakeLaws.{isRepaired, repaired-smaller, live-kept, pairless-kept, pair-repairs, turn-waits, turn-repairs, Within}
+use Rattle.planning.proofs.MakeLaws.{steps-few, isRepaired, repaired-smaller, live-kept, pairless-kept, pair-repairs, turn-waits, turn-repairs, Within}
 
 -- ---- lists of steps
 
@@ -255,23 +256,51 @@ module _ {f : Family} {k : ℕ} {marks : List Bool} {r : ℕ} {start : List ℕ}
     pub round-room : from + 4 * steps + 4 ≤ length out
     round-room = omega (arith, w .room, w .kept, total)
 
-    pub round-more : (part : List ℕ) → length part ≡ count → take (count - 2) part ≡ liveNodes rest-free (nodeCount f k)
-        → InRound f k marks r start from before (putMid (from + 4 * steps) 4 out (r ∷ x .node ∷ x .pairs .smaller ∷ x .pairs .larger ∷ [])) (set next (x .node) true) (part ++ drop count list) (count - 2) rest-free (steps + 1) (x .node)
-    unfolding stepBytes flatMap setLive
-    round-more part size nodes =
+    abbrev after : List Step
+    after = w .done ++ asStep f k marks r free x ∷ []
+
+    -- its bytes and its mark with those before it
+    bytes-after : putMid (from + 4 * steps) 4 out (r ∷ x .node ∷ x .pairs .smaller ∷ x .pairs .larger ∷ []) ≡ putMid from (4 * length after) start (stepBytes after)
+    unfolding stepBytes flatMap
+    bytes-after =
         let one = asStep f k marks r free x ∷ [] in
-        let after = w .done ++ one in
         let l : length after ≡ length (w .done) + 1 = length-append (w .done) one in
         let fours : 4 * (length (w .done) + 1) ≡ 4 * length (w .done) + 4 = omega arith in
+        rw (w .count-is, w .bytes, l, bytes-append (w .done) one, fours) (put-beside start (stepBytes (w .done)) (stepBytes one) from (4 * length (w .done)) 4 (omega (arith, round-room, w .kept)) (length-bytes (w .done)))
+
+    marked-after : set next (x .node) true ≡ marksAfter before after
+    unfolding setLive
+    marked-after = rw (w .marked, marks-append before (w .done) (asStep f k marks r free x ∷ []))
+
+    split-after : roundSteps once f k marks r ≡ after ++ stepsAbove f k marks r rest-free (x .node)
+    split-after = w .split ∙ rw (n .steps, append-assoc (w .done) (asStep f k marks r free x ∷ []) (stepsAbove f k marks r rest-free (x .node)))
+
+    -- where every missing node is repaired it is the last
+    pub round-last : nodeCount f k - length (liveNodes marks (nodeCount f k)) ≡ steps + 1
+        → (steps + 1 ≡ length (roundSteps once f k marks r))
+        × (putMid (from + 4 * steps) 4 out (r ∷ x .node ∷ x .pairs .smaller ∷ x .pairs .larger ∷ []) ≡ putMid from (4 * length (roundSteps once f k marks r)) start (stepBytes (roundSteps once f k marks r)))
+        × (set next (x .node) true ≡ marksAfter before (roundSteps once f k marks r))
+    round-last e =
+        let few = steps-few once f k marks r marks (missingNodes marks (nodeCount f k)) in
+        let above = stepsAbove f k marks r rest-free (x .node) in
+        let sizes = ap length split-after ∙ length-append after above in
+        let count : length after ≡ steps + 1 = omega (arith, length-append (w .done) (asStep f k marks r free x ∷ []), w .count-is) in
+        let none : above ≡ [] = length-zero above (omega (arith, few, sizes, count, e, missing-count marks (nodeCount f k))) in
+        let all : roundSteps once f k marks r ≡ after = split-after ∙ rw (none, append-nil) in
+        rw all (sym count, bytes-after, marked-after)
+
+    pub round-more : (part : List ℕ) → length part ≡ count → take (count - 2) part ≡ liveNodes rest-free (nodeCount f k)
+        → InRound f k marks r start from before (putMid (from + 4 * steps) 4 out (r ∷ x .node ∷ x .pairs .smaller ∷ x .pairs .larger ∷ [])) (set next (x .node) true) (part ++ drop count list) (count - 2) rest-free (steps + 1) (x .node)
+    round-more part size nodes =
         record {
           done = after;
-          split = w .split ∙ rw (n .steps, append-assoc (w .done) one (stepsAbove f k marks r rest-free (x .node)));
+          split = split-after;
           within = n .last;
-          count-is = omega (arith, w .count-is);
+          count-is = omega (arith, w .count-is, length-append (w .done) (asStep f k marks r free x ∷ []));
           room = w .room;
           kept = same-len-mid (from + 4 * steps) 4 out (r ∷ x .node ∷ x .pairs .smaller ∷ x .pairs .larger ∷ []) (sym (length-mid out (from + 4 * steps) 4 round-room)) ∙ w .kept;
-          bytes = rw (w .count-is, w .bytes, l, bytes-append (w .done) one, fours) (put-beside start (stepBytes (w .done)) (stepBytes one) from (4 * length (w .done)) 4 (omega (arith, round-room, w .kept)) (length-bytes (w .done)));
-          marked = rw (w .marked, marks-append before (w .done) one);
+          bytes = bytes-after;
+          marked = marked-after;
           live = λ i v. w .live i (unset-live free (x .pairs .smaller) i (unset-live (set free (x .pairs .smaller) false) (x .pairs .larger) i v .1) .1);
           fits = omega (arith, size, length-append part (drop count list));
           nodes = take-append-le (count - 2) part (drop count list) (omega (arith, size)) ∙ nodes;

@@ -53,7 +53,8 @@ fn read_pair(list: &mut [u8], free: &mut [bool; 256], n: usize, smaller: usize, 
 }
 
 // The steps of a round, put into `out` from place `from` on, and their nodes live in `next`; `marks` are those when the round
-// begins. Gives how many they are. A node is free until it is read: `list` has the free ones.
+// begins. Gives how many they are. A node is free until it is read: `list` has the free ones. With every missing node repaired there is
+// nothing more to read.
 fn plan_round(
     family: Family,
     k: usize,
@@ -79,6 +80,7 @@ fn plan_round(
     if count < 2 {
         return 0;
     }
+    let missing = n - count;
     let mut list = lists::list_live(marks, n);
     let counts = count_missing(family, k, columns, &list[..count], marks);
     let mut free = *marks;
@@ -91,12 +93,15 @@ fn plan_round(
         }
         let at = from + 4 * steps;
         put_step(&mut out[at..at + 4], round, found);
-        let pair = found.pairs;
-        read_pair(&mut list[..count], &mut free, n, pair.smaller, pair.larger);
-        count -= 2;
         node = found.node;
         next[node] = true;
         steps += 1;
+        if steps == missing {
+            return steps;
+        }
+        let pair = found.pairs;
+        read_pair(&mut list[..count], &mut free, n, pair.smaller, pair.larger);
+        count -= 2;
     }
     steps
 }

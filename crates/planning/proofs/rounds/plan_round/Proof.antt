@@ -6,6 +6,7 @@ use mathlib.Core.List.{flatMap}
 use Prim.Native.Nat.{suc, _+_, _-_, _*_, _≤_}
 use native.Mathlib.Nat.{add-sub-cancel-left}
 use native.Mathlib.Omega.{arith}
+use borrow.Rule.Slice.PartMut.{same-len-mid}
 use denote.Ref.{now}
 use lib.ListN.{length, take, length-take, take-append-drop}
 use Rattle.base.specs.Ranges.{firstFrom}
@@ -13,21 +14,22 @@ use Rattle.blocks.proofs.PartLaws.{length-mid}
 use Rattle.families.specs.Families.{nodeCount}
 use Rattle.families.proofs.Laws.{few}
 use Rattle.lists.specs.Lists.{liveNodes, missingNodes, setLive}
+use Rattle.lists.proofs.Laws.{live-nodes-few}
 use Rattle.planning.specs.Plan.{once, stepBytes}
 use Rattle.planning.proofs.MakeLaws.{isRepaired}
 use Rattle.pairing.specs.Inner.{SearchBegins, foundAt}
 use Rattle.pairing.proofs.ListedLaws.{listed, fits-in}
 use Rattle.planning.proofs.PlanLaws.{all-read}
-use Rattle.planning.proofs.RoundLaws.{all-live, missingCounts, found-next, InRound, Next, next-none, next-some, round-none, round-some, round-room, round-more, round-done}
+use Rattle.planning.proofs.RoundLaws.{all-live, missingCounts, found-next, InRound, Next, next-none, next-some, round-none, round-some, round-room, round-last, round-more, round-done}
 use Rattle.planning.proofs.rounds.plan_round.Statement.{statement}
 use Rattle.planning.proofs.rounds.plan_round.Tie as tie
 
 abbrev Inv-loop : tie.InvT-loop
-Inv-loop family k columns marks round out₀ from next₀ n count₀ list₀ counts free₀ steps₀ node₀ out next count list free steps node =
+Inv-loop family k columns marks round out₀ from next₀ n count₀ missing list₀ counts free₀ steps₀ node₀ out next count list free steps node =
     (counts ≡ missingCounts family k marks) × InRound family k marks round out₀ from next₀ out next list count free steps node
 
 abbrev μ-loop : tie.MeasureT-loop
-μ-loop family k columns marks round out₀ from next₀ n count₀ list₀ counts free₀ steps₀ node₀ out next count list free steps node = n - node
+μ-loop family k columns marks round out₀ from next₀ n count₀ missing list₀ counts free₀ steps₀ node₀ out next count list free steps node = n - node
 
 -- a place of the code, which `search` finds by its type
 abbrev Place : (tie.InvT-loop → tie.MeasureT-loop → Type 0) → Type 0
@@ -137,6 +139,24 @@ put-step-requires c κs =
     let at = e .args .from + 4 * t .loop .steps in
     (rw (add-sub-cancel-left at 4) (length-mid (t .loop .out) at 4 (part-put-step-end (search))), (omega (arith, e .pre .1 .0, round-some (t .loop .inv .1) _ n), omega (arith, n .last), omega (arith, n .smaller-node .node .last), omega (arith, n .larger-node .node .last)))
 
+-- the last step where every missing node is repaired by it
+returns-4 : tie.Need-returns-4 Inv-loop μ-loop
+returns-4 c =
+    let t : Place tie.At-loop = search in
+    let e = begin t in
+    let p : Place tie.After-put-step = search in
+    let l = counted (t .before .before .before .before .before .before .before) in
+    let m = numbered t in
+    let q = round-last (t .loop .inv .1) _ (found (search)) (omega (arith, l, m .node-count .ensures, c .if4 .taken)) in
+    rw (p .put-step .ensures, add-sub-cancel-left (e .args .from + 4 * t .loop .steps) 4) (q .0, (q .1, q .2))
+
+same-length-2 : tie.Need-same-length-2 Inv-loop μ-loop
+same-length-2 c =
+    let t : Place tie.At-loop = search in
+    let p : Place tie.After-put-step = search in
+    let at = begin t .args .from + 4 * t .loop .steps in
+    same-len-mid at (at + 4 - at) (t .loop .out) (p .put-step .last .0) (p .put-step .kept .0) ∙ t .loop .inv .1 .kept
+
 -- how many nodes may be read
 free-count : (t : Place tie.At-loop) → length (take (t .loop .count) (t .loop .list)) ≡ t .loop .count
 free-count t = rw length-take (omega (arith, t .loop .inv .1 .fits))
@@ -175,8 +195,8 @@ loop-again c =
           (round-more (b .1) _ (found (search)) _ (omega (arith, q .read-pair .kept .0, free-count t)) (rw (free-count t, m .node-count .ensures) at (w .0))),
     )
 
-returns-4 : tie.Need-returns-4 Inv-loop μ-loop
-returns-4 c =
+returns-5 : tie.Need-returns-5 Inv-loop μ-loop
+returns-5 c =
     let t : Place tie.At-loop = search in
     let e = begin t in
     let w = t .loop .inv .1 in
@@ -193,6 +213,7 @@ plan-round-spec =
     count-live-requires
     returns
     returns-2
+    (λ c. let l : Place tie.After-count-live = search in let n : Place tie.After-node-count = search in omega (arith, counted l, n .node-count .ensures, live-nodes-few (now (l .before .before .before .args .marks)) (nodeCount (l .before .before .before .args .family) (l .before .before .before .args .k))))
     list-live-requires
     (λ c. live-fits (search))
     (λ c. rw length-take (omega (arith, live-fits (search))))
@@ -210,13 +231,15 @@ plan-round-spec =
     (λ c. omega arith)
     part-put-step-end
     put-step-requires
+    element-write-next
+    (λ c. omega (arith, add-put-step (search)))
+    same-length-2
+    returns-4
     (λ c. let t : Place tie.At-loop = search in t .loop .inv .1 .fits)
     (λ c. let t : Place tie.At-loop = search in rw length-take (omega (arith, t .loop .inv .1 .fits)))
     read-pair-requires
     (λ c. omega arith)
-    element-write-next
-    (λ c. omega (arith, add-put-step (search)))
     loop-less
     loop-again
     (λ c. let t : Place tie.At-loop = search in t .loop .inv .1 .kept)
-    returns-4)
+    returns-5)
