@@ -18,7 +18,7 @@ use Rattle.planning.specs.Plan.{Step, Reading, RepairedIn, marksAfter, roundsFr
 abbrev pub often : Reading
 often free step = free
 
--- the waves from marks, of which there are never n (`few-waves`)
+-- the waves from marks; there are fewer than n of them (`few-waves`)
 unfoldable pub wavesOf : Family → ℕ → List Bool → List Step
 wavesOf f k marks = roundsFrom often f k 1 marks (nodeCount f k)
 
