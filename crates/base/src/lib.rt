@@ -1,4 +1,6 @@
 // Powers of two, lowest bits and lengths in bits, bytes as numbers. The laws of numbers, bits and lists that every crate may cite stand in proofs/.
+#![tactic(auto)]
+
 ghost use Rattle.std.specs.Prelude.{◌≡◌, ◌-◌, ◌^◌, ◌<◌};
 ghost use Rattle.std.specs.Int.Count.{count_trailing_zeros, count_leading_zeros};
 

@@ -1,4 +1,6 @@
 // Blocks: copied, and the XOR of two blocks of a nodes buffer put in the place of a third.
+#![tactic(auto)]
+
 ghost use Rattle.std.specs.Prelude.{◌≡◌, ◌⊎◌, ◌+◌, ◌-◌, ◌*◌, ◌≤◌, length};
 ghost use borrow.Rule.Slice.PartMut.{mid_of, put_mid};
 ghost use Rattle.blocks.specs.Blocks.{xor_bytes, block_of, with_block};

@@ -1,4 +1,6 @@
 // Boxes of nodes: their checks, the body of a node, and bodies copied between a box and a nodes buffer.
+#![tactic(auto)]
+
 ghost use Rattle.std.specs.Prelude.{◌≡◌, ◌+◌, ◌*◌, ◌/◌, ◌%◌, ◌≤◌, ◌<◌, length, drop};
 ghost use mathlib.Core.List.{◌∷◌, ◌++◌, flat_map};
 ghost use Rattle.families.specs.Families.{KInRange, family_of};

@@ -1,4 +1,6 @@
 // A plan made elsewhere, checked for a session, and carried out where it is accepted.
+#![tactic(auto)]
+
 ghost use Rattle.std.specs.Prelude.{◌≡◌, false};
 ghost use Rattle.families.specs.Families.{family_of};
 ghost use Rattle.validation.specs.Inner.{validated_of};

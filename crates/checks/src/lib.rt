@@ -1,4 +1,6 @@
 // Refusals 1 to 3, which every operation on a family, a k and an L begins with.
+#![tactic(auto)]
+
 ghost use Rattle.std.specs.Prelude.{◌≡◌};
 ghost use Rattle.checks.specs.Checks.{first_met};
 ghost use Rattle.checks.specs.Parameters.{parameter_checks};

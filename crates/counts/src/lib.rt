@@ -1,5 +1,7 @@
 // Counts, one for each number from 0 to 255. They come by value where they are summed: of an array that is lent, a proof does not know
 // that its elements fit 16 bits.
+#![tactic(auto)]
+
 ghost use Rattle.std.specs.Prelude.{◌≡◌, ◌≤◌, ◌<◌};
 ghost use Rattle.counts.specs.Counts.{count_of, one_more, sum_of, counted_outside};
 

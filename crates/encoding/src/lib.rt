@@ -1,4 +1,6 @@
 // Encoding: the nodes buffer from an object, by the generator matrix.
+#![tactic(auto)]
+
 ghost use Rattle.std.specs.Prelude.{◌≡◌, ◌*◌, length};
 ghost use Rattle.families.specs.Families.{KInRange, node_count, column_of};
 ghost use Rattle.blocks.specs.Blocks.{with_block};

@@ -1,1 +1,2 @@
 // The lettered examples of document 01: a table in specs/, and its proof in proofs/.
+#![tactic(auto)]

@@ -294,4 +294,4 @@ unit_node WeightTwo k i r h =
       node_is WeightTwo k r (2 ^ i) (suc i) (record { first = omega arith; last = omega (arith, pair_count k, pairs_le k) })
           (data_column k (suc i) (omega arith) h ∙ ap (λ (x : ℕ). 2 ^ x) (omega arith)),
     )
-unit_node Tetrahedron k i r h = tetra.data-node i (omega (arith, r.most))
+unit_node Tetrahedron k i r h = tetra.data_node_lem i (omega (arith, r.most))

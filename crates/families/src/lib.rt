@@ -1,5 +1,7 @@
 // The three code families: the range of k, the number of nodes, each node's column, the node of a column, and which nodes
 // are related.
+#![tactic(auto)]
+
 mod pairs;
 mod tetrahedron;
 
@@ -10,7 +12,7 @@ ghost use Rattle.families.specs.Inner.{column_table};
 ghost use Rattle.families.specs.declared.Family.TheVariants.{Simplex};
 
 // A family; its number in document 01 is 1, 2 or 3, in this order.
-#[derive(Drop)]
+#[derive(Clone, Copy)]
 pub enum Family {
     Simplex,
     WeightTwo,

@@ -6,7 +6,7 @@ ghost use Rattle.families.specs.Inner.{unit, column_table};
 ghost use Rattle.families.specs.declared.Family.TheVariants.{WeightTwo};
 
 // A pair, of which the first number is the smaller.
-#[derive(Drop)]
+#[derive(Clone, Copy)]
 struct Pair {
     smaller: usize,
     larger: usize,

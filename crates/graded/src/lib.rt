@@ -1,5 +1,7 @@
 // Simplex nodes in graded lexicographic order: by number of data blocks, then by the rising lists of block numbers compared from
 // the front. It is the order of source document 000's example.
+#![tactic(auto)]
+
 ghost use Rattle.std.specs.Prelude.{◌≡◌, ◌∷◌, ◌++◌, ◌-◌, ◌^◌, length, replicate};
 ghost use Rattle.families.specs.Families.{KInRange};
 ghost use Rattle.families.specs.declared.Family.TheVariants.{Simplex};

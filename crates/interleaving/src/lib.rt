@@ -1,5 +1,7 @@
 // Interleaving: the bytes of an object spread over its blocks, so that neighbouring bytes lie in different blocks, and put back. An
 // object is `len` rows of k bytes, and the k blocks are its columns.
+#![tactic(auto)]
+
 ghost use Rattle.std.specs.Prelude.{◌≡◌};
 ghost use Rattle.checks.specs.Checks.{first_met};
 ghost use Rattle.interleaving.specs.Interleaved.{interleaved, deinterleaved, interleave_checks, interleave_answer, out_moved};

@@ -1,4 +1,6 @@
 // The lister: reads one box on standard input and prints its plan.
+#![tactic(auto)]
+
 ghost use Rattle.std.specs.Prelude.{◌≡◌, length};
 
 // Room for any listing.

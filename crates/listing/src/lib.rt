@@ -1,5 +1,7 @@
 // The lister's text: a box's parameters and live count, the steps of its plan, and what the plan comes to. Besides what both
 // programs print of an input that is turned away.
+#![tactic(auto)]
+
 mod lines;
 pub mod text;
 

@@ -1,4 +1,6 @@
 // Node lists, a byte a node, and marks, a bool for each number from 0 to 255.
+#![tactic(auto)]
+
 ghost use Rattle.std.specs.Prelude.{◌≡◌, true, ◌++◌, ◌-◌, ◌≤◌, ◌<◌, length, drop, replicate};
 ghost use Rattle.checks.specs.Checks.{first_met};
 ghost use Rattle.lists.specs.Inner.{turned_round, without_place};

@@ -1,4 +1,6 @@
 // The C interface, include/mogtriz.h: numbers come in as `size_t`, and one that is out of range is refused, never cut.
+#![tactic(auto)]
+
 pub mod conversions;
 pub mod repairs;
 pub mod sessions;

@@ -12,7 +12,7 @@ use repair::{Repairs, Session};
 
 // C's mogtriz_stepped.
 #[repr(C)]
-#[derive(Drop)]
+#[derive(Clone, Copy)]
 pub struct StepAnswer {
     pub refusal: u8,
     pub session: MarkedSession,
@@ -20,7 +20,7 @@ pub struct StepAnswer {
 
 // C's mogtriz_repairs.
 #[repr(C)]
-#[derive(Drop)]
+#[derive(Clone, Copy)]
 pub struct RepairsAnswer {
     pub refusal: u8,
     pub steps: usize,
@@ -31,7 +31,7 @@ pub struct RepairsAnswer {
 
 // C's mogtriz_pairs_found.
 #[repr(C)]
-#[derive(Drop)]
+#[derive(Clone, Copy)]
 pub struct PairsAnswer {
     pub refusal: u8,
     pub smaller: usize,
@@ -42,7 +42,7 @@ pub struct PairsAnswer {
 
 // C's mogtriz_plan_checked and mogtriz_carried; `bad` is their bad_step.
 #[repr(C)]
-#[derive(Drop)]
+#[derive(Clone, Copy)]
 pub struct PlanAnswer {
     pub refusal: u8,
     pub bad: usize,

@@ -12,7 +12,7 @@ use repair::{Session, Written};
 
 // C's mogtriz_session.
 #[repr(C)]
-#[derive(Drop)]
+#[derive(Clone, Copy)]
 pub struct MarkedSession {
     pub family: usize,
     pub k: usize,
@@ -24,7 +24,7 @@ pub struct MarkedSession {
 
 // C's mogtriz_started.
 #[repr(C)]
-#[derive(Drop)]
+#[derive(Clone, Copy)]
 pub struct StartAnswer {
     pub refusal: u8,
     pub session: MarkedSession,
@@ -32,7 +32,7 @@ pub struct StartAnswer {
 
 // C's mogtriz_written.
 #[repr(C)]
-#[derive(Drop)]
+#[derive(Clone, Copy)]
 pub struct WriteAnswer {
     pub refusal: u8,
     pub length: usize,
@@ -41,7 +41,7 @@ pub struct WriteAnswer {
 
 // C's mogtriz_read_out_answer.
 #[repr(C)]
-#[derive(Drop)]
+#[derive(Clone, Copy)]
 pub struct ReadOutAnswer {
     pub refusal: u8,
     pub block: usize,
@@ -50,7 +50,7 @@ pub struct ReadOutAnswer {
 
 // C's mogtriz_part.
 #[repr(C)]
-#[derive(Drop)]
+#[derive(Clone, Copy)]
 pub struct Part {
     pub refusal: u8,
     pub from: usize,

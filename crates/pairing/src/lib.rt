@@ -1,12 +1,14 @@
 // The search for a pair on plain marks: two live nodes related to a node, of which the smaller is least, and how many such pairs
 // there are.
+#![tactic(auto)]
+
 pub mod count;
 mod ends;
 mod partner;
 pub mod search;
 
 // The pair of a node whose smaller node is least, and how many pairs the node has; zeros where it has none.
-#[derive(Drop)]
+#[derive(Clone, Copy)]
 pub struct Pairs {
     pub smaller: usize,
     pub larger: usize,
@@ -14,7 +16,7 @@ pub struct Pairs {
 }
 
 // A node and its pairs; zeros where no node is found.
-#[derive(Drop)]
+#[derive(Clone, Copy)]
 pub struct Found {
     pub node: usize,
     pub pairs: Pairs,

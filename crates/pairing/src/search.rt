@@ -10,7 +10,7 @@ use crate::{Found, Pairs};
 use base::wide;
 use families::Family;
 
-#[derive(Drop)]
+#[derive(Clone, Copy)]
 struct Pair {
     smaller: usize,
     larger: usize,

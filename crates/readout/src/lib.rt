@@ -1,4 +1,6 @@
 // The data blocks of an object, out of the nodes that hold one each.
+#![tactic(auto)]
+
 ghost use Rattle.std.specs.Prelude.{◌≡◌, ◌*◌, ◌≤◌, length};
 ghost use Rattle.families.specs.Families.{KInRange, node_count};
 ghost use Rattle.readout.specs.DataBlocks.{data_node, missing_block, data_blocks};

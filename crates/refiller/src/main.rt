@@ -1,4 +1,6 @@
 // The refiller: reads one box on standard input, runs its plan and writes the box of all live nodes.
+#![tactic(auto)]
+
 fn main() {
     let mut input = listing::input_room();
     let read = stdio::read_input(&mut input);

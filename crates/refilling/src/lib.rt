@@ -1,4 +1,6 @@
 // The refiller's output: a box read, its plan run, and the box of all live nodes written.
+#![tactic(auto)]
+
 ghost use Rattle.std.specs.Prelude.{◌≡◌, ◌++◌, ◌*◌, ◌≤◌, length, drop, replicate};
 ghost use Rattle.boxes.specs.Box.{block_length_in, node_count_in, box_length};
 ghost use Rattle.repair.specs.Boxed.{checked_box, nodes_read};

@@ -1,4 +1,6 @@
 // Sessions: which nodes of an object are live, and what is done with them.
+#![tactic(auto)]
+
 mod boxed;
 mod by_pairs;
 mod live;
@@ -12,7 +14,7 @@ ghost use Rattle.repair.specs.Boxed.{refused_write};
 
 // A family, k and L, the steps made since the start, a mark for each node number, live or missing, and how often each was read by
 // steps. It is plain data: whatever a caller puts into one, an operation first checks that it is sound.
-#[derive(Drop)]
+#[derive(Clone, Copy)]
 pub struct Session {
     pub family: usize,
     pub k: usize,
@@ -23,14 +25,14 @@ pub struct Session {
 }
 
 // What a start or a box gives: 0 and the session, or the refusal's number and a session of zeros.
-#[derive(Drop)]
+#[derive(Clone, Copy)]
 pub struct Started {
     pub refusal: u8,
     pub session: Session,
 }
 
 // What writing a box or listing the live nodes gives: how many bytes are written, or the refusal's number and 0.
-#[derive(Drop)]
+#[derive(Clone, Copy)]
 pub struct Written {
     pub refusal: u8,
     pub length: usize,
@@ -51,7 +53,7 @@ impl Session {
 }
 
 // What reading out gives: 0, or the refusal's number, and with 14 the lowest data block whose node is missing.
-#[derive(Drop)]
+#[derive(Clone, Copy)]
 pub struct ReadOut {
     pub refusal: u8,
     pub block: usize,
@@ -59,14 +61,14 @@ pub struct ReadOut {
 }
 
 // What a step gives: 0 and the next session, or the refusal's number and the session as it was handed in.
-#[derive(Drop)]
+#[derive(Clone, Copy)]
 pub struct Stepped {
     pub refusal: u8,
     pub session: Session,
 }
 
 // What a plan or a run gives: its steps, its rounds and the nodes left, or the refusal's number and zeros.
-#[derive(Drop)]
+#[derive(Clone, Copy)]
 pub struct Repairs {
     pub refusal: u8,
     pub steps: usize,
@@ -77,7 +79,7 @@ pub struct Repairs {
 
 // What a search for a pair gives: the pair, smaller node first, and how many pairs the node has, zeros where it has none; or the
 // refusal's number and zeros.
-#[derive(Drop)]
+#[derive(Clone, Copy)]
 pub struct PairsFound {
     pub refusal: u8,
     pub smaller: usize,
@@ -88,7 +90,7 @@ pub struct PairsFound {
 
 // What the check of a plan gives, and the plan carried out: the number of its first bad step, from 1, 0 where it is accepted; or the refusal's
 // number and 0.
-#[derive(Drop)]
+#[derive(Clone, Copy)]
 pub struct PlanChecked {
     pub refusal: u8,
     pub bad: usize,

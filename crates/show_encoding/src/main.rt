@@ -1,5 +1,7 @@
 // Encodes a small object with the simplex family, k = 3 and blocks of 4 bytes, and prints each node: its number, the data
 // blocks that are in it, and its bytes in base sixteen.
+#![tactic(auto)]
+
 ghost use Rattle.std.specs.Prelude.{◌≡◌, ◌≤◌, length};
 
 use families::Family;

@@ -1,4 +1,6 @@
 // Standard input, output and error of the two programs: all that they call of C.
+#![tactic(auto)]
+
 ghost use Rattle.std.specs.Prelude.{◌≡◌, ◌+◌, ◌^◌, ◌<◌, length, nat_abs};
 ghost use Rattle.stdio.specs.Reading.{after_read, ReadInto};
 ghost use Rattle.stdio.specs.Inner.{ReadAfter};
@@ -6,7 +8,7 @@ ghost use Rattle.stdio.specs.Inner.{ReadAfter};
 use libc::{STDERR_FILENO, STDIN_FILENO, STDOUT_FILENO};
 
 // What was read: how many bytes stand at the front of the buffer, and whether a read failed, so that there may be more to read.
-#[derive(Drop)]
+#[derive(Clone, Copy)]
 pub struct Reading {
     pub count: usize,
     pub failed: bool,

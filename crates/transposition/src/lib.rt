@@ -1,5 +1,7 @@
 // Matrices of bytes, row by row in a buffer, transposed into another buffer: by tiles of 128 bytes, which stay in registers on
 // their way, and byte by byte where no tile suits the matrix.
+#![tactic(auto)]
+
 ghost use Rattle.std.specs.Prelude.{◌≡◌, ◌+◌, ◌-◌, ◌*◌, ◌^◌, ◌≤◌, length};
 ghost use Rattle.transposition.specs.Inner.{transposed, PiecesIn, Nears, Strided, Loaded, Stored, Turned, TileIn, Start, Suits, Spans};
 

@@ -1,4 +1,6 @@
 // A plan made elsewhere, checked step by step against plain marks.
+#![tactic(auto)]
+
 ghost use Rattle.std.specs.Prelude.{◌≡◌, true, false, ◌+◌, ◌*◌, ◌/◌, ◌≤◌, length, drop, set};
 ghost use Rattle.families.specs.Families.{KInRange, node_count};
 ghost use Rattle.families.specs.Inner.{column_table};
@@ -12,7 +14,7 @@ use base::wide;
 use families::Family;
 
 // The number of a plan's first bad step, from 1, 0 where it has none; and the marks once the steps before it are made.
-#[derive(Drop)]
+#[derive(Clone, Copy)]
 pub struct Validated {
     pub bad: usize,
     pub live: [bool; 256],

@@ -6,8 +6,8 @@ use lib.Count.{trailing_le}
 use Rattle.base.proofs.lowest_bit.Statement.{statement}
 use Rattle.base.proofs.lowest_bit.Tie as tie
 
-cast_result : tie.Need-overflow-cast-result
+cast_result : tie.Need-overflow_cast-result
 cast_result c = omega (arith, trailing_le 64 c.args.x)
 
-pub lowest-bit-spec : {M : Type 1} → statement M
-lowest-bit-spec = tie.close (tie.spec cast_result (λ c. search rules))
+pub lowest_bit_spec : {M : Type 1} → statement M
+lowest_bit_spec = tie.close (tie.spec cast_result (λ c. search rules))

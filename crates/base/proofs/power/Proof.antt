@@ -11,5 +11,5 @@ use Rattle.base.proofs.power.Tie as tie
 returns : tie.Need-returns
 returns c = shl_exact {a = 1} 1 c.args.i 64 (omega arith) (omega arith) ∙ one-mul _
 
-pub power-spec : {M : Type 1} → statement M
-power-spec = tie.close (tie.spec (λ c. search rules) returns)
+pub power_spec : {M : Type 1} → statement M
+power_spec = tie.close (tie.spec (λ c. search rules) returns)

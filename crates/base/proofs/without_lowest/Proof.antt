@@ -8,5 +8,5 @@ use Rattle.base.proofs.without_lowest.Tie as tie
 returns : tie.Need-returns
 returns c = without_lowest 64 c.args.x c.requires (search rules)
 
-pub without-lowest-spec : {M : Type 1} → statement M
-without-lowest-spec = tie.close (tie.spec (λ c. search rules) returns)
+pub without_lowest_spec : {M : Type 1} → statement M
+without_lowest_spec = tie.close (tie.spec (λ c. search rules) returns)
