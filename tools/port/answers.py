@@ -162,6 +162,7 @@ class Function:
                 self.arms[plain(new)] = self.arms[plain(old)]
         self.words = words
         self.cited = set()
+        self.projections = set()
 
     def tied(self, name):
         for head in ("invariant-", "decreases-"):
@@ -200,10 +201,15 @@ class Function:
         return rest
 
     def term(self, text, answer):
-        """A body with the places' fields named as today; in an answer a place is one step further in."""
+        """A declaration or a body with the places' fields named as today."""
+        places = {"c"} | set(re.findall(r"(?:let |\()(" + WORD + r") : tie\.(?!Need)", text))
+        places |= set(re.findall(r"let (" + WORD + r") = c(?:\.before)* in", text))
+        places |= set(m[0] for m in re.findall(r"let (" + WORD + r") = \(?(" + WORD + r") ", text) if m[1] in self.projections)
 
         def one(m):
             var, segs = m[1], m[2].split(".")[1:]
+            if var != "tie" and var not in places:
+                return var + "".join("." + (self.words.get(plain(s), s) if "-" in s else s) for s in segs)
             if var == "tie":
                 name = self.tied(".".join(segs))
                 self.cited.add(name)
@@ -217,7 +223,24 @@ class Function:
 
         text = re.sub(r"(?<![^\s(){};,\[\]\\λ←])(" + WORD + r")((?:\.[^\s(){}.;,\[\]]+)+)", one, text)
         # fields behind a bracket: (start c).args
-        text = re.sub(r"(?<=\))((?:\.[^\s(){}.;,\[\]]+)+)", lambda m: "." + ".".join(self.path(m[1].split(".")[1:])) if self.path(m[1].split(".")[1:]) else m[1], text)
+        def behind(m):
+            segs = m[1].split(".")[1:]
+            # the bracket that is closed here
+            k, deep = m.start() - 1, 0
+            while k >= 0:
+                deep += (m.string[k] == ")") - (m.string[k] == "(")
+                if deep == 0:
+                    break
+                k -= 1
+            head = re.match(WORD, m.string[k + 1:])
+            if head and head[0] in self.projections:
+                path = self.path(segs)
+                return "".join("." + s for s in path) if path else m[1]
+            return "".join("." + (self.words.get(plain(s), s) if "-" in s else s) for s in segs)
+
+        text = re.sub(r"(?<=\))((?:\.[^\s(){}.;,\[\]]+)+)", behind, text)
+        # a place from one further in is found by its type
+        text = re.sub(r"^((?:abbrev )?" + WORD + r" : tie\.[^\n]*→ tie\.[^\n]*\n" + WORD + r" " + WORD + r" =)\s*\(?[^\n]*$", r"\1 search", text) if re.search(r"^(?:abbrev )?" + WORD + r" : [^\n]*→ tie\.", text) else text
         # a place has the invariants and measures already
         text = re.sub(r"\0((?: [^\s(){}]*(?:invariant|decreases|Inv|μ)[^\s(){}]*)*)", "", text)
         # names for a contract, or for what a call ensures
@@ -282,6 +305,8 @@ def main_turn(names, crate):
                 answers[name] = (t[1], notes, code)
                 continue
             helpers.append((name, block))
+            if re.search(r"→ tie\.(?!Need)[^→]*$", kind):
+                fn.projections.add(name)
         # which answer is for which goal: by the places in the list that closes the proof
         given = {}
         if spec:
