@@ -188,7 +188,7 @@ class Function:
         new = self.steps.get(plain(first), self.words.get(plain(first), first) if "-" in first else first)
         if new.startswith("if-") and rest and rest[0] in ("taken", "left"):
             rest = [{"taken": "true", "left": "false"}[rest[0]]] + rest[1:]
-        rest = self.by_clause(new, rest)
+        rest = ["invariant" if s == "inv" else s for s in self.by_clause(new, rest)]
         return [new] + [self.words.get(plain(s), s) if "-" in s and plain(s) in self.words else s for s in rest]
 
     def by_clause(self, first, rest):
@@ -209,9 +209,11 @@ class Function:
         def one(m):
             var, segs = m[1], m[2].split(".")[1:]
             if var != "tie" and var not in places:
-                return var + "".join("." + (self.words.get(plain(s), s) if "-" in s else s) for s in segs)
+                return var + "".join("." + ("invariant" if s == "inv" else self.words.get(plain(s), s) if "-" in s else s) for s in segs)
             if var == "tie":
                 name = self.tied(".".join(segs))
+                if name.startswith(("invariant-", "decreases-")):
+                    return "goal." + name
                 self.cited.add(name)
                 return name + "\0"
             path = self.path(segs)
@@ -243,6 +245,12 @@ class Function:
         text = re.sub(r"^((?:abbrev )?" + WORD + r" : tie\.[^\n]*→ tie\.[^\n]*\n" + WORD + r" " + WORD + r" =)\s*\(?[^\n]*$", r"\1 search", text) if re.search(r"^(?:abbrev )?" + WORD + r" : [^\n]*→ tie\.", text) else text
         # a place has the invariants and measures already
         text = re.sub(r"\0((?: [^\s(){}]*(?:invariant|decreases|Inv|μ)[^\s(){}]*)*)", "", text)
+        # a place that is found by its type: its fields are the goal's own
+        for m in re.finditer(r"\n?[ \t]*let (" + WORD + r") : ((?:After|Then|Else|In|At|Own)-[^\s)]+|Start) = search in", text):
+            var, place = m[1], m[2]
+            text = text.replace(m[0], "", 1)
+            text = re.sub(r"(?<![^\s(){};,\[\]])" + re.escape(var) + r"(?=\.)", "c", text)
+            text = re.sub(r"(?<![^\s(){};,\[\]])" + re.escape(var) + r"(?=[\s)};,]|$)", "(goal.at.\1 c)." + place if answer else "(search)", text)
         # names for a contract, or for what a call ensures
         for m in re.finditer(r"let (" + WORD + r") = " + r"([^\s(){};,\[\]]+)\.(requires|ensures) in", text):
             var, path, kind = m[1], m[2].split("."), m[3]
@@ -266,7 +274,9 @@ def main_turn(names, crate):
             print(f"{path}: no names")
             continue
         own = all_clauses.get(name_of + "::" + local.replace(".", "::").replace("+", ""), {"requires": [], "ensures": []})
-        fn = Function(listed[key[0]], words, own, all_clauses)
+        of_listed = listed[key[0]]
+        needs_too = {}
+        fn = Function(of_listed, words, own, all_clauses)
         with open(path, encoding="utf-8") as f:
             text = f.read()
         head, found = blocks(text)
@@ -391,14 +401,25 @@ def main_turn(names, crate):
             m = re.match(r"^(?:--[^\n]*\n)*(?:pub )?(?:abbrev )?" + WORD + r"\s*:\s*\((" + WORD + r") : ((?:After|Then|Else|In|At|Own)-[^\s)]+|Start)", text)
             if m:
                 takes[name] = m[2]
+        placed = {new: at[1] for (old, new), at in zip(of_listed["needs"], of_listed["asked_at"])}
+        local_goal = {a: g for g, a in given.items() if g != "args" and a in answers}
         for goal in list(store):
+            store[goal] = store[goal].replace("goal.at.\1", "goal.at." + goal)
+            for a, g in local_goal.items():
+                if g == goal:
+                    continue
+                cite = re.compile(r"(?<![^\s(){};,\[\]])" + re.escape(a) + r" (?:\(search\)|c(?:\.before)*(?=[\s)])|c(?:\.before)*$|" + WORD + r"|\([^()]*\))")
+                if cite.search(store[goal]):
+                    store[goal] = cite.sub(lambda m: f"{g} (goal.at.{goal} c).{placed[g]}", store[goal])
+                    fn.cited.add(placed[g])
+                    needs_too.setdefault(goal, []).append(g)
             for h, place in takes.items():
                 store[goal] = re.sub(r"(?<![^\s(])" + re.escape(h) + r" (?:\(search\)|c(?:\.before)*(?=[\s)])|c(?:\.before)*$)", f"{h} (goal.at.{goal} c).{place}", store[goal])
         left = {n: "\n".join(v[1] + v[2]) for n, v in answers.items() if n not in given.values()}
         out = os.path.join(crate, "out/port", local)
         os.makedirs(out, exist_ok=True)
         with open(os.path.join(out, "store.json"), "w", encoding="utf-8") as f:
-            json.dump({"comment": comment, "uses": uses, "store": store, "helpers": kept, "left": left, "unknown": unknown, "cited": sorted(fn.cited), "crate": name_of, "local": local, "folder": os.path.relpath(folder, crate)}, f, ensure_ascii=False, indent=1)
+            json.dump({"comment": comment, "uses": uses, "store": store, "helpers": kept, "left": left, "unknown": unknown, "cited": sorted(fn.cited), "needs_too": needs_too, "crate": name_of, "local": local, "folder": os.path.relpath(folder, crate)}, f, ensure_ascii=False, indent=1)
         os.replace(path, os.path.join(out, "Proof.antt"))
         for u in unknown:
             print(f"{local}: {u}")
@@ -479,6 +500,16 @@ def write(s, crate, goals):
             have = f.read()
         had = re.findall(r"^pub (\S+) : goal\.", have, re.M)
     goals = [g for g in goals if g not in had]
+    more = True
+    while more:
+        more = False
+        for g in list(goals):
+            for n in s["needs_too"].get(g, []):
+                if n not in had and n not in goals:
+                    goals.append(n)
+                    more = True
+    order = list(s["store"])
+    goals.sort(key=lambda g: order.index(g) if g in order else len(order))
     known = [s["store"][g] for g in had if g in s["store"]]
     parts = []
     for g in had + goals:

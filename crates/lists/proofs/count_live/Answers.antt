@@ -1,0 +1,31 @@
+-- `lists::count_live` meets its contract: before each turn as many are counted as are live of 1 to j.
+use mathlib.Core.Path.{refl, sym, ap, ◌∙◌}
+use Prim.Native.Nat.{◌-◌}
+use lib.ListN.{length, length-append}
+use native.Mathlib.Omega.{arith}
+use Rattle.base.specs.Ranges.{those_from}
+use Rattle.lists.proofs.Laws.{live_nodes_few}
+use Rattle.base.proofs.RangeLaws.{those_more, those_same}
+use Rattle.lists.specs.Lists.{is_live, live_nodes}
+use Rattle.lists.proofs.count_live.Goals as goal
+use Rattle.lists.proofs.count_live.Goals.{At-loop-j, Start}
+
+pub loop-j-init : goal.loop-j-init
+unfolding those_from
+loop-j-init c = (omega arith, refl)
+
+pub overflow_add-count : goal.overflow_add-count
+overflow_add-count c =
+    let e : Start = search in
+    let t : At-loop-j = search in
+    omega (arith, live_nodes_few e.args.marks.now t.loop-j.j)
+
+pub loop-j-preserved-then-marks-j : goal.loop-j-preserved-then-marks-j
+loop-j-preserved-then-marks-j c =
+    let e : Start = search in
+    let t : At-loop-j = search in
+    let m = e.args.marks.now in
+    (omega arith, omega (arith, ap length (those_more (is_live m) t.loop-j.j c.if-marks-j.true) ∙ length-append (live_nodes m t.loop-j.j) _))
+
+pub loop-j-preserved : goal.loop-j-preserved
+loop-j-preserved c = let t : At-loop-j = search in (omega arith, t.loop-j.inv.1 ∙ sym (ap length (those_same _ t.loop-j.j c.if-marks-j.false)))
