@@ -279,6 +279,8 @@ def main_turn(names, crate):
         fn = Function(of_listed, words, own, all_clauses)
         with open(path, encoding="utf-8") as f:
             text = f.read()
+        text = re.sub(r"(?<![^\s(])Place (tie\.[^\s)]+)", r"\1", text)
+        text = re.sub(r"\n(?:--[^\n]*\n)*abbrev Place : [^\n]*\nPlace [^\n]*\n", "\n", text)
         head, found = blocks(text)
         comment = [l for l in head if l.startswith("--") and "Assumes nothing" not in l]
         uses = [l for l in head if l.startswith("use ") and not l.endswith((".Statement.{statement}", ".Tie as tie"))]
@@ -405,6 +407,8 @@ def main_turn(names, crate):
         local_goal = {a: g for g, a in given.items() if g != "args" and a in answers}
         for goal in list(store):
             store[goal] = store[goal].replace("goal.at.\1", "goal.at." + goal)
+            k = store[goal].index("=", store[goal].index("\n" + goal)) + 1
+            top, store[goal] = store[goal][:k], store[goal][k:]
             for a, g in local_goal.items():
                 if g == goal:
                     continue
@@ -413,6 +417,7 @@ def main_turn(names, crate):
                     store[goal] = cite.sub(lambda m: f"{g} (goal.at.{goal} c).{placed[g]}", store[goal])
                     fn.cited.add(placed[g])
                     needs_too.setdefault(goal, []).append(g)
+            store[goal] = top + store[goal]
             for h, place in takes.items():
                 store[goal] = re.sub(r"(?<![^\s(])" + re.escape(h) + r" (?:\(search\)|c(?:\.before)*(?=[\s)])|c(?:\.before)*$)", f"{h} (goal.at.{goal} c).{place}", store[goal])
         left = {n: "\n".join(v[1] + v[2]) for n, v in answers.items() if n not in given.values()}

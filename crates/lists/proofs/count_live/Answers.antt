@@ -8,7 +8,6 @@ use Rattle.lists.proofs.Laws.{live_nodes_few}
 use Rattle.base.proofs.RangeLaws.{those_more, those_same}
 use Rattle.lists.specs.Lists.{is_live, live_nodes}
 use Rattle.lists.proofs.count_live.Goals as goal
-use Rattle.lists.proofs.count_live.Goals.{At-loop-j, Start}
 
 pub loop-j-init : goal.loop-j-init
 unfolding those_from
@@ -16,16 +15,12 @@ loop-j-init c = (omega arith, refl)
 
 pub overflow_add-count : goal.overflow_add-count
 overflow_add-count c =
-    let e : Start = search in
-    let t : At-loop-j = search in
-    omega (arith, live_nodes_few e.args.marks.now t.loop-j.j)
+    omega (arith, live_nodes_few c.args.marks.now c.loop-j.j)
 
 pub loop-j-preserved-then-marks-j : goal.loop-j-preserved-then-marks-j
 loop-j-preserved-then-marks-j c =
-    let e : Start = search in
-    let t : At-loop-j = search in
-    let m = e.args.marks.now in
-    (omega arith, omega (arith, ap length (those_more (is_live m) t.loop-j.j c.if-marks-j.true) ∙ length-append (live_nodes m t.loop-j.j) _))
+    let m = c.args.marks.now in
+    (omega arith, omega (arith, ap length (those_more (is_live m) c.loop-j.j c.if-marks-j.true) ∙ length-append (live_nodes m c.loop-j.j) _))
 
 pub loop-j-preserved : goal.loop-j-preserved
-loop-j-preserved c = let t : At-loop-j = search in (omega arith, t.loop-j.inv.1 ∙ sym (ap length (those_same _ t.loop-j.j c.if-marks-j.false)))
+loop-j-preserved c = (omega arith, c.loop-j.invariant.1 ∙ sym (ap length (those_same _ c.loop-j.j c.if-marks-j.false)))

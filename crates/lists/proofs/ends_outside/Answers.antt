@@ -6,17 +6,14 @@ use Rattle.base.proofs.RangeLaws.{outside_low}
 use Rattle.lists.proofs.Laws.{last_outside}
 use Rattle.lists.proofs.Walks.{outside_step, outside_end}
 use Rattle.lists.proofs.ends_outside.Goals as goal
-use Rattle.lists.proofs.ends_outside.Goals.{Start}
 
 pub returns-then-list-lt1 : goal.returns-then-list-lt1
-returns-then-list-lt1 c = let e : Start = search in sym (outside_end e.args.list.now 0 (omega arith) e.args.n)
+returns-then-list-lt1 c = sym (outside_end c.args.list.now 0 (omega arith) c.args.n)
 
 pub returns-then-list-lt1-2 : goal.returns-then-list-lt1-2
 returns-then-list-lt1-2 c =
-    let e : Start = search in
-    sym (outside_step e.args.list.now 0 (omega arith) e.args.n ∙ simp (outside_low 1 e.args.n (get_or e.args.list.now 0 0) (omega arith)))
+    sym (outside_step c.args.list.now 0 (omega arith) c.args.n ∙ simp (outside_low 1 c.args.n (get_or c.args.list.now 0 0) (omega arith)))
 
 pub returns : goal.returns
 returns c =
-    let e : Start = search in
-    rw c.wide.ensures (sym (last_outside e.args.n e.args.list.now e.requires (omega arith) (omega arith)))
+    rw c.wide.ensures (sym (last_outside c.args.n c.args.list.now c.requires (omega arith) (omega arith)))

@@ -4,20 +4,12 @@ use native.Mathlib.Omega.{arith}
 use lib.ListN.{length}
 use Rattle.lists.proofs.WithoutLaws.{moved_length, moved_more}
 use Rattle.lists.proofs.remove.Goals as goal
-use Rattle.lists.proofs.remove.Goals.{At-loop-i, In-loop-i, Start, decreases-loop-i, invariant-loop-i}
+use Rattle.lists.proofs.remove.Goals.{In-loop-i}
 
--- a place of the code, which `search` finds by its type
-abbrev Place : (invariant-loop-i → decreases-loop-i → Type 0) → Type 0
-Place P = P goal.the-invariant-loop-i goal.the-decreases-loop-i
-
-within : (c : Place In-loop-i) → let t = c.before in t.loop-i.i + 1 < length t.args.list.now
+within : (c : In-loop-i) → let (search) = c.before in c.loop-i.i + 1 < length c.args.list.now
 within c =
-    let e : Place Start = search in
-    let t : Place At-loop-i = search in
-    omega (arith, moved_length _ _ e.pre t.loop-i.inv)
+    omega (arith, moved_length _ _ c.requires c.loop-i.invariant)
 
 pub loop-i-preserved : goal.loop-i-preserved
 loop-i-preserved c =
-    let e : Place Start = search in
-    let t : Place At-loop-i = search in
-    moved_more _ _ e.pre t.loop.inv (within (search))
+    moved_more _ _ c.requires c.loop-i.invariant (within (goal.at.loop-i-preserved c).In-loop-i)

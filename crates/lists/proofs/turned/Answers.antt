@@ -8,22 +8,17 @@ use Rattle.base.proofs.RangeLaws.{length-list_from, get_or-list_from}
 use Rattle.lists.specs.Lists.{is_live}
 use Rattle.lists.specs.Inner.{turned_round}
 use Rattle.lists.proofs.turned.Goals as goal
-use Rattle.lists.proofs.turned.Goals.{At-loop-j, Start}
 
 pub loop-j-preserved : goal.loop-j-preserved
 unfolding turned_round
 loop-j-preserved c =
-    let e : Start = search in
-    let t : At-loop-j = search in
-    let m = e.args.marks.now in
+    let m = c.args.marks.now in
     let n = length-list_from (λ j. not (is_live m j)) 0 256 in
-    (omega arith, rw t.loop-j.inv.1 (fill_more (turned_round m) _ t.loop-j.j false (omega (arith, n)) (omega arith) (sym (get_or-list_from (λ j. not (is_live m j)) 256 t.loop-j.j false (omega arith)))))
+    (omega arith, rw c.loop-j.invariant.1 (fill_more (turned_round m) _ c.loop-j.j false (omega (arith, n)) (omega arith) (sym (get_or-list_from (λ j. not (is_live m j)) 256 c.loop-j.j false (omega arith)))))
 
 pub returns : goal.returns
 unfolding turned_round
 returns c =
-    let e : Start = search in
-    let t : At-loop-j = search in
-    let m = e.args.marks.now in
+    let m = c.args.marks.now in
     let n = length-list_from (λ j. not (is_live m j)) 0 256 in
-    t.loop-j.inv.1 ∙ fill_done (turned_round m) _ t.loop-j.j (omega (arith, n)) (omega arith)
+    c.loop-j.invariant.1 ∙ fill_done (turned_round m) _ c.loop-j.j (omega (arith, n)) (omega arith)
