@@ -245,10 +245,18 @@ class Function:
         text = re.sub(r"^((?:abbrev )?" + WORD + r" : tie\.[^\n]*→ tie\.[^\n]*\n" + WORD + r" " + WORD + r" =)\s*\(?[^\n]*$", r"\1 search", text) if re.search(r"^(?:abbrev )?" + WORD + r" : [^\n]*→ tie\.", text) else text
         # a place has the invariants and measures already
         text = re.sub(r"\0((?: [^\s(){}]*(?:invariant|decreases|Inv|μ)[^\s(){}]*)*)", "", text)
+        # what a test of !x says is said of x
+        text = re.sub(r"not-(?:true|false) (?:_|\S+) (c\.if-not-[^\s()]+\.(?:true|false))", r"\1", text)
         # a place that is found by its type: its fields are the goal's own
         for m in re.finditer(r"\n?[ \t]*let (" + WORD + r") : ((?:After|Then|Else|In|At|Own)-[^\s)]+|Start) = search in", text):
             var, place = m[1], m[2]
             text = text.replace(m[0], "", 1)
+            # a nearer name that hides it
+            if re.search(r"λ[^.]*(?<![^\s(λ])" + re.escape(var) + r"(?=[\s.:])", text):
+                text = re.sub(r"λ " + re.escape(var) + r"\. ((?:[^()]|\([^()]*\))*)", lambda n: "λ " + var + "'. " + re.sub(r"(?<![^\s(){};,\[\]])" + re.escape(var) + r"(?![\w'-])", var + "'", n[1]), text)
+            if re.search(r"let " + re.escape(var) + r" = ", text):
+                print(f"  {var} is bound again: {m[0].strip()}")
+                continue
             text = re.sub(r"(?<![^\s(){};,\[\]])" + re.escape(var) + r"(?=\.)", "c", text)
             text = re.sub(r"(?<![^\s(){};,\[\]])" + re.escape(var) + r"(?=[\s)};,]|$)", "(goal.at.\1 c)." + place if answer else "(search)", text)
         # names for a contract, or for what a call ensures

@@ -16,12 +16,12 @@ pub returns-then-not-rising : goal.returns-then-not-rising
 unfolding first_met
 returns-then-not-rising c =
     let o : some_outside c.args.n c.args.list.now ≡ false = sym c.outside_by_order.ensures ∙ c.if-outside_by_order.false in
-    let r : rises c.args.list.now ≡ false = sym c.is_rising-rising.ensures ∙ not-true _ c.if-not-rising.true in
+    let r : rises c.args.list.now ≡ false = sym c.is_rising-rising.ensures ∙ c.if-not-rising.true in
     rw (o, r)
 
 pub returns : goal.returns
 unfolding first_met
 returns c =
     let o : some_outside c.args.n c.args.list.now ≡ false = sym c.outside_by_order.ensures ∙ c.if-outside_by_order.false in
-    let r : rises c.args.list.now ≡ true = sym c.is_rising-rising.ensures ∙ not-false _ c.if-not-rising.false in
+    let r : rises c.args.list.now ≡ true = sym c.is_rising-rising.ensures ∙ c.if-not-rising.false in
     rw (o, r)

@@ -16,7 +16,7 @@ returns-then-wide-j c =
 pub loop-i-preserved : goal.loop-i-preserved
 loop-i-preserved c =
     let s = place_step c.args.list.now c.loop-i.i (omega arith) c.args.j in
-    omega (arith, simp (ne_eqb (get_or c.args.list.now c.loop-i.i 0) c.args.j (λ c. c.if-wide-j.false (c.wide.ensures ∙ (goal.at.loop-i-preserved c).Start))) at s)
+    omega (arith, simp (ne_eqb (get_or c.args.list.now c.loop-i.i 0) c.args.j (λ e. c.if-wide-j.false (c.wide.ensures ∙ e))) at s)
 
 pub returns : goal.returns
 returns c =

@@ -6,7 +6,7 @@ use Rattle.lists.proofs.WithoutLaws.{moved_length, moved_more}
 use Rattle.lists.proofs.remove.Goals as goal
 use Rattle.lists.proofs.remove.Goals.{In-loop-i}
 
-within : (c : In-loop-i) → let (search) = c.before in c.loop-i.i + 1 < length c.args.list.now
+within : (c : In-loop-i) → c.loop-i.i + 1 < length c.args.list.now
 within c =
     omega (arith, moved_length _ _ c.requires c.loop-i.invariant)
 
