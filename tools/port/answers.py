@@ -49,7 +49,7 @@ def clauses(root):
                 m = re.match(r'^\s*(?:pub )?(?:extern "C" )?fn (\w+)', line)
                 if m:
                     now = at + "::" + (owner + "::" if owner else "") + m[1]
-                    found[now] = {"requires": [], "ensures": [], "params": []}
+                    found[now] = {"requires": [], "ensures": [], "params": [], "was": {"requires": 0, "ensures": 0}}
                     head, more = line[m.end():], True
                     inside = True
                 elif now and inside:
@@ -61,6 +61,49 @@ def clauses(root):
                 if m and now:
                     found[now][m[1]].append(m[2])
     return found
+
+
+def were(root, found):
+    """How many clauses each function had before the port: read from the commit WAS."""
+    import subprocess
+
+    for path in sorted(glob.glob(os.path.join(root, "crates/*/src/*.rt"))):
+        local = os.path.relpath(path, root)
+        old = subprocess.run(["git", "-C", root, "show", f"{WAS}:{local}"], capture_output=True, text=True).stdout
+        crate, module = local.split("/")[1], os.path.basename(path)[:-3]
+        at = crate if module in ("lib", "main") else crate + "::" + module
+        owner, now = "", None
+        for line in old.split("\n"):
+            m = re.match(r"^impl (\w+)", line)
+            if m:
+                owner = m[1]
+            elif line.startswith("}"):
+                owner = ""
+            m = re.match(r'^\s*(?:pub )?(?:extern "C" )?fn (\w+)', line)
+            if m:
+                now = at + "::" + (owner + "::" if owner else "") + m[1]
+            m = re.match(r"^\s*(requires|ensures)\b", line)
+            if m and now in found:
+                found[now]["was"][m[1]] += 1
+    return found
+
+
+WAS = "01a146b3284ea4237870f5b13e623ec4ce801439"
+
+
+def nested(text, n):
+    """The parts of a tuple for n clauses: pairs in pairs, or all in one."""
+    flat = parts_of(text)
+    if flat and len(flat) == n:
+        return flat
+    parts, now = [], text
+    for _ in range(n - 1):
+        two = parts_of(now)
+        if not two or len(two) != 2:
+            return None
+        parts.append(two[0])
+        now = two[1]
+    return parts + [now]
 
 
 def parts_of(text):
@@ -92,8 +135,8 @@ def named_record(body, names):
         return body
     cuts = [0] + [m.end() for m in re.finditer(r"\bin\b\s", body)]
     for cut in reversed(cuts):
-        parts = parts_of(body[cut:])
-        if parts and len(parts) == len(names):
+        parts = nested(body[cut:], len(names))
+        if parts:
             rest = body[cut:]
             space = rest[: len(rest) - len(rest.lstrip())]
             return body[:cut] + (space or " ") + "record { " + "; ".join(f"{n} = {p}" for n, p in zip(names, parts)) + " }"
@@ -231,7 +274,33 @@ class Function:
         rest = ["invariant" if s == "inv" else s for s in self.by_clause(new, rest)]
         return [new] + [self.words.get(plain(s), s) if "-" in s and plain(s) in self.words else s for s in rest]
 
+    def clause(self, of, kind, path):
+        """Clauses were nested pairs, unless one clause has been split."""
+        names, was = of[kind], of["was"][kind]
+        if len(names) < 2:
+            return path
+        if was == len(names) or was == 0:
+            k, at = 0, list(path)
+            while k < len(names) - 1 and at and at[0] in ("0", "1"):
+                if at.pop(0) == "0":
+                    return [names[k]] + at
+                k += 1
+                if k == len(names) - 1:
+                    return [names[k]] + at
+            return path
+        if was == 1 and path and path[0].isdigit() and int(path[0]) < len(names):
+            return [names[int(path[0])]] + path[1:]
+        print(f"  {was} clauses were {kind}, now {' '.join(names)}: {'.'.join(path)}")
+        return path
+
     def by_clause(self, first, rest):
+        if first == "requires" and rest and rest[0].isdigit():
+            return self.clause(self.own, "requires", rest)
+        if first in self.callees and len(rest) > 1 and rest[0] == "ensures" and rest[1].isdigit():
+            return ["ensures"] + self.clause(self.callees[first], "ensures", rest[1:])
+        return rest
+
+    def by_clause_old(self, first, rest):
         if first == "requires" and rest and rest[0].isdigit() and len(self.own["requires"]) > 1 and int(rest[0]) < len(self.own["requires"]):
             return [self.own["requires"][int(rest[0])]] + rest[1:]
         if first in self.callees and len(rest) > 1 and rest[0] == "ensures" and rest[1].isdigit():
@@ -244,7 +313,7 @@ class Function:
         """A declaration or a body with the places' fields named as today."""
         # a place that is found by its type: its fields are those of c
         while True:
-            m = re.search(r"\n?[ \t]*(?<=[\s(])let (" + WORD + r") : tie\.([^\s)]+)(?: [^\s()=]+)* = search in", text)
+            m = re.search(r"\n?[ \t]*(?:(?<=[\s(])|^)let (" + WORD + r") : tie\.([^\s)]+)(?: [^\s()=]+)* = search in", text)
             if not m:
                 break
             place = self.tied(m[2])
@@ -259,6 +328,7 @@ class Function:
                 break
             rest = nearer(text[m.end():], m[1])
             rest = re.sub(r"(?<![^\s(){};,\[\]])" + re.escape(m[1]) + r"(?=\.)", "c", rest)
+            rest = re.sub(r"(?<![^\s(){};,\[\]λ])" + re.escape(m[1]) + r"(?=[\s)};,]|$)", "\x01Start\x02", rest)
             text = text[:m.start()] + rest
         # the place of c
         m = re.search(r"\(c : tie\.([^\s)]+)|^(?:--[^\n]*\n)*(?:abbrev )?" + WORD + r" : tie\.([^\s)]+)", text)
@@ -276,7 +346,7 @@ class Function:
                         text = nearer(text.replace(n[0], "", 1), n[1])
                         text = re.sub(r"(?<![^\s(){};,\[\]])" + re.escape(n[1]) + r"(?=\.)", "c", text)
                         text = re.sub(r"(?<![^\s(){};,\[\]])" + re.escape(n[1]) + r"(?=[\s)};,]|$)", "\x01" + to + "\x02", text)
-                text = re.sub(r"\(?\x01([^\x02]*)\x02(?:\.before)*\)?(?=\.[^b])", "c", text)
+                text = re.sub(r"\(\x01([^\x02]*)\x02\)(?=\.)|\x01([^\x02]*)\x02(?:\.before)*(?=\.[^b])", "c", text)
             text = re.sub(r"\x01([^\x02]*)\x02", lambda m: ("c" if m[1] == at else f"(goal.at.{goal} c).{m[1]}" if goal else self.chain(at, m[1])), text)
             for n in re.findall(r"goal\.at\." + WORD + r" c\)\.(" + WORD + ")", text):
                 self.cited.add(n)
@@ -335,9 +405,9 @@ class Function:
         # names for a contract, or for what a call ensures
         for m in re.finditer(r"let (" + WORD + r") = " + r"([^\s(){};,\[\]]+)\.(requires|ensures) in", text):
             var, path, kind = m[1], m[2].split("."), m[3]
-            names = self.own["requires"] if kind == "requires" else self.callees.get(path[-1], {"ensures": []})["ensures"]
-            if len(names) > 1:
-                text = re.sub(r"(?<![^\s(){};,\[\]])" + re.escape(var) + r"\.(\d)(?![\w])", lambda d: f"{var}.{names[int(d[1])]}" if int(d[1]) < len(names) else d[0], text)
+            of = self.own if kind == "requires" else self.callees.get(path[-1])
+            if of and len(of[kind]) > 1:
+                text = re.sub(r"(?<![^\s(){};,\[\]])" + re.escape(var) + r"((?:\.\d)+)(?![\w])", lambda d: var + "." + ".".join(self.clause(of, kind, d[1].split(".")[1:])), text)
         return text
 
 
@@ -346,7 +416,8 @@ def main_turn(names, crate):
         listed = json.load(f)
     words = source_words(os.path.abspath(crate))
     name_of = os.path.basename(os.path.abspath(crate))
-    all_clauses = clauses(os.path.join(os.path.abspath(crate), "../.."))
+    root = os.path.normpath(os.path.join(os.path.abspath(crate), "../.."))
+    all_clauses = were(root, clauses(root))
     for path in sorted(glob.glob(os.path.join(crate, "proofs/**/Proof.antt"), recursive=True)):
         folder = os.path.dirname(path)
         local = os.path.relpath(folder, os.path.join(crate, "proofs")).replace("/", ".")
@@ -354,7 +425,7 @@ def main_turn(names, crate):
         if len(key) != 1:
             print(f"{path}: no names")
             continue
-        own = all_clauses.get(name_of + "::" + local.replace(".", "::").replace("+", ""), {"requires": [], "ensures": []})
+        own = all_clauses.get(name_of + "::" + local.replace(".", "::").replace("+", ""), {"requires": [], "ensures": [], "params": [], "was": {"requires": 0, "ensures": 0}})
         of_listed = listed[key[0]]
         needs_too = {}
         fn = Function(of_listed, words, own, all_clauses)
@@ -513,14 +584,14 @@ def main_turn(names, crate):
                 new = re.sub(r"(?<![\w.])c((?:\.before)+)(?![\w.])", lambda m: "c" + m[1] + ".before" * delta, f"(let {h}' : {kind} = {body} in {h}')")
                 text = text[:k] + re.sub(r"(?<![^\s(])" + re.escape(h) + r" \(search\)", lambda m: new, text[k:])
             pair[1] = text
-            m = re.match(r"^(?:--[^\n]*\n)*" + re.escape(name or "?") + r" : \(c : [^\s)]+\) → ([^\n]*)\n" + re.escape(name or "?") + r" c((?: [^\s=]+)*) =(.*)$", text, re.S)
+            m = re.match(r"^(?:--[^\n]*\n)*" + re.escape(name or "?") + r" : \(c : [^\s)]+\)\s+→ (.*?)\n" + re.escape(name or "?") + r" c((?: [^\s=]+)*) =(.*)$", text, re.S)
             if m and "\n  where" not in m[3] and "\n" + str(name) + " " not in m[3]:
                 body = " ".join(l.strip() for l in m[3].strip().split("\n"))
                 for h in list(takes):
                     cite = r"(?<![^\s(])" + re.escape(h) + r" c(?=[\s)]|$)"
                     if final.get(h) and takes[h] == takes.get(name) and re.search(cite, body):
                         body = re.sub(cite, lambda m: f"(let {h}' : {final[h][0]} = {final[h][1]} in {h}')", body)
-                final[name] = (m[1], f"λ{m[2]}. {body}" if m[2] else body)
+                final[name] = (" ".join(m[1].split()), f"λ{m[2]}. {body}" if m[2] else body)
             else:
                 final[name] = None
         placed = {new: at[1] for (old, new), at in zip(of_listed["needs"], of_listed["asked_at"])}

@@ -48,8 +48,8 @@ module _ (f : Family) (k : ℕ) (marks : List Bool) where
       go (yes q) = rw q (get_or-set_same counts x (pair_count f k marks x) 0 (omega arith))
       go (no n) = get_or-set_other counts x j (pair_count f k marks x) 0 n ∙ e
 
-  pub each_listed : (counts : List ℕ) {list : List ℕ} {j : ℕ} → j < length counts → Memᴰ j list → count_of (count_each f k marks counts list) j ≡ pair_count f k marks j
+  pub each_listed : {j : ℕ} {list : List ℕ} (counts : List ℕ) → j < length counts → Memᴰ j list → count_of (count_each f k marks counts list) j ≡ pair_count f k marks j
   unfolding count_each
-  each_listed counts {j = j} h (Memᴰ.head {x} {xs} e) =
+  each_listed {j = j} counts h (Memᴰ.head {x} {xs} e) =
       each_keeps (set counts x (pair_count f k marks x)) xs j (omega (arith, length-set counts x (pair_count f k marks x))) (rw e (get_or-set_same counts x (pair_count f k marks x) 0 (omega arith)))
   each_listed counts h (Memᴰ.tail {x} m) = each_listed (set counts x (pair_count f k marks x)) (omega (arith, length-set counts x (pair_count f k marks x))) m

@@ -1,0 +1,24 @@
+-- `pairing::search::pairs_of` meets its contract: the node alone is counted, so that the walk finds it or nothing.
+use Prim.Native.Nat.{◌≤◌}
+use native.Mathlib.Omega.{arith}
+use Rattle.families.specs.Families.{node_count}
+use Rattle.families.proofs.Laws.{few}
+use Rattle.pairing.proofs.OneLaws.{found_alone}
+use Rattle.pairing.proofs.search.pairs_of.Goals as goal
+use Rattle.pairing.proofs.search.pairs_of.Goals.{After-node_count-n, Start}
+
+node_few : (e : Start) → node_count e.args.family e.args.k ≤ 255
+node_few e = few _ _ e.requires.0
+
+few_nodes : (n : After-node_count-n) → n.node_count-n.result ≤ 255
+few_nodes n = omega (arith, n.node_count-n.ensures, node_few (search))
+
+pub count_live-count-requires : goal.count_live-count-requires
+count_live-count-requires c = few_nodes (goal.at.count_live-count-requires c).After-node_count-n
+
+pub list_live-all-requires : goal.list_live-all-requires
+list_live-all-requires c = few_nodes (goal.at.list_live-all-requires c).After-node_count-n
+
+pub returns : goal.returns
+returns c =
+    rw (c.find_next-found.ensures, c.count_alone-counts.ensures) (found_alone c.args.family c.args.k c.requires.0 c.args.marks c.args.j c.requires.1)
