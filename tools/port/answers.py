@@ -311,6 +311,10 @@ class Function:
 
     def term(self, text, answer, goal=None):
         """A declaration or a body with the places' fields named as today."""
+        # a helper's place is called c
+        m = re.search(r"^(?:--[^\n]*\n)*(?:abbrev )?" + WORD + r" : \((" + WORD + r") : tie\.", text)
+        if m and m[1] != "c" and not re.search(r"(?<![^\s(){};,\[\]λ])c(?=[\s).])", text):
+            text = re.sub(r"(?<![^\s(){};,\[\]λ])" + re.escape(m[1]) + r"(?=[\s).};,]|$)", "c", text)
         # a place that is found by its type: its fields are those of c
         while True:
             m = re.search(r"\n?[ \t]*(?:(?<=[\s(])|^)let (" + WORD + r") : tie\.([^\s)]+)(?: [^\s()=]+)* = search in", text)
