@@ -56,6 +56,7 @@ def clauses(root):
                     head += line
                 if now and inside and (")" in head):
                     inside = False
+                    found[now]["lent"] = re.findall(r"(?:^|[(,])\s*(\w+)\s*:\s*&(?:'\w+ )?mut\b", head.split("->")[0])
                     found[now]["params"] = re.findall(r"(?:^|[(,])\s*(?:mut )?(self|\w+)(?=\s*[:,)])", head.split("->")[0])
                 m = CLAUSE.match(line)
                 if m and now:
@@ -133,14 +134,24 @@ def named_record(body, names):
     """A body that ends in a tuple of one part for each clause: a record of them by name."""
     if len(names) < 2:
         return body
-    cuts = [0] + [m.end() for m in re.finditer(r"\bin\b\s", body)]
-    for cut in reversed(cuts):
-        parts = nested(body[cut:], len(names))
-        if parts:
-            rest = body[cut:]
-            space = rest[: len(rest) - len(rest.lstrip())]
-            return body[:cut] + (space or " ") + "record { " + "; ".join(f"{n} = {p}" for n, p in zip(names, parts)) + " }"
-    return body
+    text = body.rstrip()
+    if not text.endswith(")"):
+        return body
+    deep, k = 0, len(text)
+    while k > 0:
+        k -= 1
+        deep += (text[k] == ")") - (text[k] == "(")
+        if deep == 0:
+            break
+    parts = nested(text[k:], len(names))
+    before = text[:k].rstrip()
+    # what the tuple stands behind: nothing, or equations by which the goal is rewritten
+    cuts = [0] + [m.end() for m in re.finditer(r"\bin\b", before)]
+    last = before[cuts[-1]:].strip()
+    if not parts or (last and not re.match(r"(rw|simp) ", last)):
+        return body
+    new = "record { " + "; ".join(f"{n} = {p}" for n, p in zip(names, parts)) + " }"
+    return text[:k] + (f"({new})" if last else new)
 
 
 def nearer(text, var):
@@ -296,6 +307,14 @@ class Function:
     def by_clause(self, first, rest):
         if first == "requires" and rest and rest[0].isdigit():
             return self.clause(self.own, "requires", rest)
+        if first in self.callees and len(rest) > 1 and rest[0] in ("kept", "last") and rest[1].isdigit():
+            k, at, lent = 0, rest[1:], self.callees[first].get("lent", [])
+            while at and at[0] == "1":
+                k, at = k + 1, at[1:]
+            if at and at[0] == "0":
+                at = at[1:]
+            if k < len(lent):
+                return ["auto" if rest[0] == "kept" else "new", lent[k]] + at
         if first in self.callees and len(rest) > 1 and rest[0] == "ensures" and rest[1].isdigit():
             return ["ensures"] + self.clause(self.callees[first], "ensures", rest[1:])
         return rest
@@ -303,6 +322,14 @@ class Function:
     def by_clause_old(self, first, rest):
         if first == "requires" and rest and rest[0].isdigit() and len(self.own["requires"]) > 1 and int(rest[0]) < len(self.own["requires"]):
             return [self.own["requires"][int(rest[0])]] + rest[1:]
+        if first in self.callees and len(rest) > 1 and rest[0] in ("kept", "last") and rest[1].isdigit():
+            k, at, lent = 0, rest[1:], self.callees[first].get("lent", [])
+            while at and at[0] == "1":
+                k, at = k + 1, at[1:]
+            if at and at[0] == "0":
+                at = at[1:]
+            if k < len(lent):
+                return ["auto" if rest[0] == "kept" else "new", lent[k]] + at
         if first in self.callees and len(rest) > 1 and rest[0] == "ensures" and rest[1].isdigit():
             names = self.callees[first]["ensures"]
             if len(names) > 1 and int(rest[1]) < len(names):
@@ -339,12 +366,12 @@ class Function:
         at = self.asked.get(goal) if goal else (self.tied(m[1] or m[2]) if m else None)
         if at in self.info:
             # a place that a helper gives
-            inner = r"c(?:\.before)*"
+            inner = r"(?:c(?:\.before)*|\x01[^\x02]*\x02)"
             for _ in range(4):
                 for h, (_, to) in self.results.items():
                     to = self.tied(to)
                     text = re.sub(r"\(" + re.escape(h) + r" (?:" + inner + r"|\(search\))\)(?=\.)", "c", text)
-                    text = re.sub(r"\(" + re.escape(h) + r" (?:" + inner + r"|\(search\))\)|(?<![^\s(])" + re.escape(h) + r" (?:c(?:\.before)*(?=[\s)])|\(search\))", lambda m: "\x01" + to + "\x02", text)
+                    text = re.sub(r"\(" + re.escape(h) + r" (?:" + inner + r"|\(search\))\)|(?<![^\s(])" + re.escape(h) + r" (?:c(?:\.before)*(?=[\s)]|$)|\x01[^\x02]*\x02|\(search\))", lambda m: "\x01" + to + "\x02", text)
                     # a name for it
                     for n in re.finditer(r"let (" + WORD + r") = \x01" + re.escape(to) + r"\x02 in", text):
                         text = nearer(text.replace(n[0], "", 1), n[1])
@@ -570,6 +597,8 @@ def main_turn(names, crate):
         final = {}
         for pair in kept:
             name, text = pair
+            if name is None:
+                continue
             for h in list(takes):
                 if h not in final or not fn.info.get(takes[h], (None, True))[1]:
                     continue

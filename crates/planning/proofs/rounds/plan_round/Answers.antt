@@ -37,18 +37,18 @@ live_fits : (c : After-list_live-list) → c.count_live-count.result ≤ length 
 live_fits c = fits_in c.count_live-count.result c.list_live-list.result _ ((let counted' : let g = c.args in c.count_live-count.result ≡ length (live_nodes g.marks.now (node_count g.family g.k)) = c.count_live-count.ensures ∙ rw c.node_count-n.ensures in counted')) (live_list c)
 
 -- what the search gives, as the round's next repair
-next_found : (c : After-find_next-found) → let g = (begin c.before.before.before.before.before).args in
+next_found : (c : After-find_next-found) → let g = c.args in
     c.find_next-found.result ≡ found_at g.family g.k c.loop-count.free (missing_counts g.family g.k g.marks.now) (first_from (is_repaired g.family g.k g.marks.now c.loop-count.free) (suc c.loop-count.node) (node_count g.family g.k - c.loop-count.node))
 next_found c =
-    let e = begin c.before.before.before.before.before in
+    
     let b = c.loop-count.invariant in
-    found_next _ _ e.requires.kin_range.0 e.args.marks.now c.loop-count.free b.1.live c.loop-count.node b.1.within b.0 c.find_next-found.ensures
+    found_next _ _ c.requires.kin_range.0 c.args.marks.now c.loop-count.free b.1.live c.loop-count.node b.1.within b.0 c.find_next-found.ensures
 
 -- the repair that was found
-found : (c : Else-found-eq0) → let g = (begin c.before.before.before.before.before.before.before).args in Next g.family g.k g.marks.now g.round c.loop-count.free c.loop-count.node c.find_next-found.result
+found : (c : Else-found-eq0) → let g = c.args in Next g.family g.k g.marks.now g.round c.loop-count.free c.loop-count.node c.find_next-found.result
 found c =
-    let e = begin c.before.before.before.before.before.before.before in
-    next_some _ _ _ _ _ _ _ _ (next_found (search)) e.requires.kin_range.0 c.loop-count.invariant.1.within c.if-found-eq0.false
+    
+    next_some _ _ _ _ _ _ _ _ (next_found (search)) c.requires.kin_range.0 c.loop-count.invariant.1.within c.if-found-eq0.false
 
 -- how many nodes may be read
 free_count : (c : At-loop-count) → length (take c.loop-count.count c.loop-count.list) ≡ c.loop-count.count
@@ -71,23 +71,23 @@ pub slice_bounds-put_step-end : goal.slice_bounds-put_step-end
 slice_bounds-put_step-end c = round_room c.loop-count.invariant.1 _ (found (goal.at.slice_bounds-put_step-end c).Else-found-eq0)
 
 pub bounds-next-node : goal.bounds-next-node
-bounds-next-node c = omega (arith, (found (goal.at.bounds-next-node c).Else-found-eq0).last, node_few (begin (goal.at.bounds-next-node c).At-loop-count))
+bounds-next-node c = omega (arith, (found (goal.at.bounds-next-node c).Else-found-eq0).last, node_few (goal.at.bounds-next-node c).Start)
 
 pub loop-count-smaller : goal.loop-count-smaller
 loop-count-smaller c =
-    let m = numbered (goal.at.loop-count-smaller c).At-loop-count in
+    
     let n = found (goal.at.loop-count-smaller c).Else-found-eq0 in
-    omega (arith, n.above, n.last, m.node_count-n.ensures)
+    omega (arith, n.above, n.last, c.node_count-n.ensures)
 
 pub loop-count-preserved : goal.loop-count-preserved
 loop-count-preserved c =
-    let e = begin (goal.at.loop-count-preserved c).At-loop-count in
+    
     let b = c.loop-count.invariant in
     let w = c.read_pair.ensures in
-    let m = numbered (goal.at.loop-count-preserved c).At-loop-count in (
+     (
       b.0,
-      rw (c.put_step.ensures, add-sub_cancel_left (e.args.from + 4 * c.loop-count.steps) 4, w.free_after)
-          (round_more b.1 _ (found (goal.at.loop-count-preserved c).Else-found-eq0) _ (omega (arith, c.read_pair.kept.0, free_count (goal.at.loop-count-preserved c).At-loop-count)) (rw (free_count (goal.at.loop-count-preserved c).At-loop-count, m.node_count-n.ensures) at w.list_after)),
+      rw (c.put_step.ensures, add-sub_cancel_left (c.args.from + 4 * c.loop-count.steps) 4, w.free_after)
+          (round_more b.1 _ (found (goal.at.loop-count-preserved c).Else-found-eq0) _ (omega (arith, c.read_pair.auto.list, free_count (goal.at.loop-count-preserved c).At-loop-count)) (rw (free_count (goal.at.loop-count-preserved c).At-loop-count, c.node_count-n.ensures) at w.list_after)),
     )
 
 -- where every node is live the round has no steps
@@ -96,7 +96,7 @@ unfolding step_bytes flat_map set_live
 returns-then-count-n c =
     let g = c.args in
     let s = all_live once g.family g.k g.marks.now g.round (omega (arith, rw c.node_count-n.ensures at (sym c.count_live-count.ensures ∙ c.if-count-n.true))) in
-    rw s (refl, (sym (take-append-drop g.from g.out.now), refl))
+    rw s (record { value = refl; out_after = sym (take-append-drop g.from g.out.now); next_after = refl })
 
 -- and where fewer than two are
 pub returns-then-count-lt2 : goal.returns-then-count-lt2
@@ -104,39 +104,39 @@ unfolding step_bytes flat_map set_live
 returns-then-count-lt2 c =
     let g = c.args in
     let s = all_read once g.family g.k g.marks.now c.requires.kin_range.0 g.round g.marks.now (missing_nodes g.marks.now (node_count g.family g.k)) (omega (arith, rw c.node_count-n.ensures at (sym c.count_live-count.ensures), c.if-count-lt2.true)) in
-    rw s (refl, (sym (take-append-drop g.from g.out.now), refl))
+    rw s (record { value = refl; out_after = sym (take-append-drop g.from g.out.now); next_after = refl })
 
 pub returns-then-found-eq0 : goal.returns-then-found-eq0
 returns-then-found-eq0 c =
     let w = c.loop-count.invariant.1 in
-    rw (round_done w (next_none _ _ _ _ _ _ _ _ (next_found (goal.at.returns-then-found-eq0 c).After-find_next-found) c.if-found-eq0.true)) (w.count_is, (w.bytes, w.marked))
+    rw (round_done w (next_none _ _ _ _ _ _ _ _ (next_found (goal.at.returns-then-found-eq0 c).After-find_next-found) c.if-found-eq0.true)) (record { value = w.count_is; out_after = w.bytes; next_after = w.marked })
 
 pub put_step-requires : goal.put_step-requires
 put_step-requires c =
-    let e = begin (goal.at.put_step-requires c).At-loop-count in
+    
     let n = found (goal.at.put_step-requires c).Else-found-eq0 in
-    let h = node_few e in
-    let at = e.args.from + 4 * c.loop-count.steps in
-    record { out_len = rw (add-sub_cancel_left at 4) (length_mid c.loop-count.out at 4 (slice_bounds-put_step-end (goal.at.put_step-requires c).Else-found-eq0)); round_bound = (omega (arith, e.requires.round_bound, round_some c.loop-count.invariant.1 _ n), omega (arith, n.last), omega (arith, n.smaller_node.node.last), omega (arith, n.larger_node.node.last)) }
+    let h = node_few (goal.at.put_step-requires c).Start in
+    let at = c.args.from + 4 * c.loop-count.steps in
+    record { out_len = rw (add-sub_cancel_left at 4) (length_mid c.loop-count.out at 4 (slice_bounds-put_step-end (goal.at.put_step-requires c).Else-found-eq0)); round_bound = (omega (arith, c.requires.round_bound, round_some c.loop-count.invariant.1 _ n), omega (arith, n.last), omega (arith, n.smaller_node.node.last), omega (arith, n.larger_node.node.last)) }
 
 -- the last step where every missing node is repaired by it
 pub returns-then-steps-missing : goal.returns-then-steps-missing
 returns-then-steps-missing c =
-    let e = begin (goal.at.returns-then-steps-missing c).At-loop-count in
+    
     let l = counted (goal.at.returns-then-steps-missing c).After-count_live-count in
-    let m = numbered (goal.at.returns-then-steps-missing c).At-loop-count in
-    let q = round_last c.loop-count.invariant.1 _ (found (goal.at.returns-then-steps-missing c).Else-found-eq0) (omega (arith, l, m.node_count-n.ensures, c.if-steps-missing.true)) in
-    rw (c.put_step.ensures, add-sub_cancel_left (e.args.from + 4 * c.loop-count.steps) 4) (q.0, (q.1, q.2))
+    
+    let q = round_last c.loop-count.invariant.1 _ (found (goal.at.returns-then-steps-missing c).Else-found-eq0) (omega (arith, l, c.node_count-n.ensures, c.if-steps-missing.true)) in
+    rw (c.put_step.ensures, add-sub_cancel_left (c.args.from + 4 * c.loop-count.steps) 4) (record { value = q.0; out_after = q.1; next_after = q.2 })
 
 pub read_pair-requires : goal.read_pair-requires
 read_pair-requires c =
     let n = found (goal.at.read_pair-requires c).Else-found-eq0 in
-    let m : After-node_count-n = numbered (goal.at.read_pair-requires c).At-loop-count in
-    let h = node_few (begin (goal.at.read_pair-requires c).At-loop-count) in  record { le_smaller = (n.smaller_node.node.first, n.order, rw m.node_count-n.ensures n.larger_node.node.last, omega (arith, m.node_count-n.ensures)); smaller_value = (n.smaller_node.live, n.larger_node.live, rw m.node_count-n.ensures c.loop-count.invariant.1.nodes) }
+    let m : After-node_count-n = (goal.at.read_pair-requires c).After-node_count-n in
+    let h = node_few (goal.at.read_pair-requires c).Start in record { le_smaller = (n.smaller_node.node.first, n.order, rw m.node_count-n.ensures n.larger_node.node.last, omega (arith, m.node_count-n.ensures)); smaller_value = (n.smaller_node.live, n.larger_node.live, rw m.node_count-n.ensures c.loop-count.invariant.1.nodes) }
 
 pub returns : goal.returns
 returns c =
-    let e = begin (goal.at.returns c).At-loop-count in
+    
     let w = c.loop-count.invariant.1 in
     let few = ap length w.nodes in
-    rw (round_done w (all_read once _ _ e.args.marks.now e.requires.kin_range.0 e.args.round c.loop-count.free _ (omega (arith, few, free_count (goal.at.returns c).At-loop-count)))) (w.count_is, (w.bytes, w.marked))
+    rw (round_done w (all_read once _ _ c.args.marks.now c.requires.kin_range.0 c.args.round c.loop-count.free _ (omega (arith, few, free_count (goal.at.returns c).At-loop-count)))) (record { value = w.count_is; out_after = w.bytes; next_after = w.marked })
