@@ -22,8 +22,8 @@ rule_claim k L bytes e =
     record {
       there_size = laws.length-interleaved k L bytes;
       back_size = laws.length-deinterleaved k L bytes;
-      there = λ t h. sym (laws.deinterleaved-at k L (interleaved k L bytes) t h) ∙ ap (λ (x : List ℕ). get_or x t 0) (laws.there_and_back k L bytes e);
-      back = laws.deinterleaved-at k L bytes;
+      there = λ t h. sym (laws.deinterleaved_at k L (interleaved k L bytes) t h) ∙ ap (λ (x : List ℕ). get_or x t 0) (laws.there_and_back k L bytes e);
+      back = laws.deinterleaved_at k L bytes;
       there_and_back = laws.there_and_back k L bytes e;
       back_and_there = laws.back_and_there k L bytes e;
     }
