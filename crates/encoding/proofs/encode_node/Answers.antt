@@ -29,10 +29,10 @@ rest_is c = ap₂ ◌-◌ c.requires.column_value (bit_is c)
 more : (c : Else-rest-eq0) → let x = column c.before.before.before.before.before.before in x - low_bit x ≡ 0 → ⊥
 more c z = c.if-rest-eq0.false ((let rest_is' : c.args.column - c.power-bit.result ≡ column c.before.before.before.before.before.before - low_bit (column c.before.before.before.before.before.before) = ap₂ ◌-◌ c.requires.column_value ((let bit_is' : c.power-bit.result ≡ low_bit (column c.before.before.before.before.before.before) = c.power-bit.ensures ∙ ap (λ (x : ℕ). 2 ^ x) ((let low_is' : c.lowest_bit-low.result ≡ count_trailing_zeros 64 (column c.before.before.before.before.before.before) = c.lowest_bit-low.ensures ∙ ap (count_trailing_zeros 64) c.requires.column_value in low_is')) in bit_is')) in rest_is') ∙ z)
 
-low_node : (c : After-node_of-a) →  c.node_of-a.result ≡ node_of c.args.family c.args.k (low_bit (column c.before.before.before.before.before.before.before))
+low_node : (c : After-node_of-a) → c.node_of-a.result ≡ node_of c.args.family c.args.k (low_bit (column c.before.before.before.before.before.before.before))
 low_node c = c.node_of-a.ensures ∙ ap (node_of c.args.family c.args.k) ((let bit_is' : c.power-bit.result ≡ low_bit (column c.before.before.before.before.before.before.before) = c.power-bit.ensures ∙ ap (λ (x : ℕ). 2 ^ x) ((let low_is' : c.lowest_bit-low.result ≡ count_trailing_zeros 64 (column c.before.before.before.before.before.before.before) = c.lowest_bit-low.ensures ∙ ap (count_trailing_zeros 64) c.requires.column_value in low_is')) in bit_is'))
 
-rest_node : (c : After-node_of-b) →  c.node_of-b.result ≡ node_of c.args.family c.args.k (column c.before.before.before.before.before.before.before.before - low_bit (column c.before.before.before.before.before.before.before.before))
+rest_node : (c : After-node_of-b) → c.node_of-b.result ≡ node_of c.args.family c.args.k (column c.before.before.before.before.before.before.before.before - low_bit (column c.before.before.before.before.before.before.before.before))
 rest_node c = c.node_of-b.ensures ∙ ap (node_of c.args.family c.args.k) ((let rest_is' : c.args.column - c.power-bit.result ≡ column c.before.before.before.before.before.before.before.before - low_bit (column c.before.before.before.before.before.before.before.before) = ap₂ ◌-◌ c.requires.column_value ((let bit_is' : c.power-bit.result ≡ low_bit (column c.before.before.before.before.before.before.before.before) = c.power-bit.ensures ∙ ap (λ (x : ℕ). 2 ^ x) ((let low_is' : c.lowest_bit-low.result ≡ count_trailing_zeros 64 (column c.before.before.before.before.before.before.before.before) = c.lowest_bit-low.ensures ∙ ap (count_trailing_zeros 64) c.requires.column_value in low_is')) in bit_is')) in rest_is'))
 
 -- its lowest bit is one of k bits
@@ -68,4 +68,4 @@ xor_block-requires c =
     let p = c.requires.before_node in
     let s = sources _ _ _ p.range p.node (more (goal.at.xor_block-requires c).Else-rest-eq0) in
     let a = low_node (goal.at.xor_block-requires c).After-node_of-a in
-    let b = rest_node (goal.at.xor_block-requires c).After-node_of-b in  record { in_buffer = (inside p _ p.node.first (omega arith), rw a (inside p _ s.low.first (omega (arith, s.low.before))), rw b (inside p _ s.rest.first (omega (arith, s.rest.before)))); fact = ((λ e'. omega (arith, a, e', s.low.before)), (λ e'. omega (arith, b, e', s.rest.before))) }
+    let b = rest_node (goal.at.xor_block-requires c).After-node_of-b in record { in_buffer = (inside p _ p.node.first (omega arith), rw a (inside p _ s.low.first (omega (arith, s.low.before))), rw b (inside p _ s.rest.first (omega (arith, s.rest.before)))); fact = ((λ e'. omega (arith, a, e', s.low.before)), (λ e'. omega (arith, b, e', s.rest.before))) }

@@ -14,24 +14,24 @@ use Rattle.pairing.proofs.count.count_at.Goals as goal
 use Rattle.pairing.proofs.count.count_at.Goals.{After-missing_with_third, Else-few}
 
 -- what the table has of j
-table_is : (c : Else-few) → 
+table_is : (c : Else-few) →
     c.wide-within.result ≡ count_of (count_all no_counts (thirds c.args.family c.args.k (missing_nodes c.args.marks.now (node_count c.args.family c.args.k)))) c.args.j
 table_is c =
     let p = c.requires in
     c.wide-within.ensures ∙ rw (p.table_value, c.if-few.false, p.missing_value)
 
 -- the count and what was taken off
-whole : (c : After-missing_with_third) → 
+whole : (c : After-missing_with_third) →
     pair_count c.args.family c.args.k c.args.marks.now c.args.j + c.missing_with_third.result ≡ c.most_pairs.result + c.wide-within.result
 whole c =
     let p = c.requires in
     rw (c.missing_with_third.ensures, c.most_pairs.ensures, (let table_is' : c.wide-within.result ≡ count_of (count_all no_counts (thirds c.args.family c.args.k (missing_nodes c.args.marks.now (node_count c.args.family c.args.k)))) c.args.j = let p = c.requires in c.wide-within.ensures ∙ rw (p.table_value, c.if-few.false, p.missing_value) in table_is'), p.missing_value) (by_missing _ _ p.kin_range.0 c.args.marks.now _ p.kin_range.2)
 
 pub offset_bounds-table-j : goal.offset_bounds-table-j
-offset_bounds-table-j c =  omega (arith, c.requires.kin_range.2.last, few _ _ c.requires.kin_range.0)
+offset_bounds-table-j c = omega (arith, c.requires.kin_range.2.last, few _ _ c.requires.kin_range.0)
 
 pub bounds-table-j : goal.bounds-table-j
-bounds-table-j c =  omega (arith, c.requires.kin_range.2.last, few _ _ c.requires.kin_range.0)
+bounds-table-j c = omega (arith, c.requires.kin_range.2.last, few _ _ c.requires.kin_range.0)
 
 pub returns-then-few : goal.returns-then-few
 returns-then-few c =

@@ -35,7 +35,7 @@ loop-i-preserved c =
     (mod-eq_of_lt (omega (arith, c.count_at.ensures, count_most _ _ p.search_begins.range m _ n, most_few _ _ p.search_begins.range m _ n)) ∙ c.count_at.ensures)
 
 pub returns : goal.returns
-returns c =  making_done c.loop-i.invariant (omega arith)
+returns c = making_done c.loop-i.invariant (omega arith)
 
 pub shorter_table-table-requires : goal.shorter_table-table-requires
 shorter_table-table-requires c =

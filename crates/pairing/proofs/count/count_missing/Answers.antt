@@ -28,7 +28,7 @@ missing_fits : (c : After-list_missing-lost) → c.node_count-n.result - length 
 missing_fits c = fits_in _ c.list_missing-lost.result _ (missing_size c) (missing_list c)
 
 pub list_missing-lost-requires : goal.list_missing-lost-requires
-list_missing-lost-requires c =  omega (arith, c.node_count-n.ensures, node_few (goal.at.list_missing-lost-requires c).Start)
+list_missing-lost-requires c = omega (arith, c.node_count-n.ensures, node_few (goal.at.list_missing-lost-requires c).Start)
 
 pub slice_bounds-lost-count : goal.slice_bounds-lost-count
 slice_bounds-lost-count c =

@@ -47,4 +47,4 @@ loop-next-preserved c =
     rw c.count_one.ensures (counting_more c.loop-next.invariant _ (omega arith) (third_is (goal.at.loop-next-preserved c).After-third_node-third))
 
 pub returns : goal.returns
-returns c =  counting_done c.loop-next.invariant (omega arith)
+returns c = counting_done c.loop-next.invariant (omega arith)

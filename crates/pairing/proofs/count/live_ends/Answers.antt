@@ -15,7 +15,7 @@ loop-i-preserved c =
     seeing_more c.loop-i.invariant _ (omega arith) (c.live_partner-b.ensures ∙ ap (live_partner c.args.family c.args.k c.args.marks.now c.args.j) c.wide-a.ensures)
 
 pub returns : goal.returns
-returns c =  seeing_done c.loop-i.invariant (omega arith)
+returns c = seeing_done c.loop-i.invariant (omega arith)
 
 pub live_partner-b-requires : goal.live_partner-b-requires
 live_partner-b-requires c =

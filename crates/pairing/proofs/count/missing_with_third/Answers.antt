@@ -30,13 +30,13 @@ all_but_one e is =
     (simplex_missing e.args.k (subst (λ (f : Family). KInRange f e.args.k) is p.kin_range.0) e.args.j (subst (λ (f : Family). IsNode f e.args.k e.args.j) is p.kin_range.2) (λ i. not (is_live e.args.marks.now i)))
 
 pub bounds-marks-j : goal.bounds-marks-j
-bounds-marks-j c =  omega (arith, c.requires.kin_range.2.last, few _ _ c.requires.kin_range.0)
+bounds-marks-j c = omega (arith, c.requires.kin_range.2.last, few _ _ c.requires.kin_range.0)
 
 pub overflow_sub-result : goal.overflow_sub-result
-overflow_sub-result c =  omega (arith, all_but_one (goal.at.overflow_sub-result c).Start c.in-Simplex.is)
+overflow_sub-result c = omega (arith, all_but_one (goal.at.overflow_sub-result c).Start c.in-Simplex.is)
 
 pub returns-in-Simplex : goal.returns-in-Simplex
-returns-in-Simplex c =  omega (arith, all_but_one (goal.at.returns-in-Simplex c).Start c.in-Simplex.is)
+returns-in-Simplex c = omega (arith, all_but_one (goal.at.returns-in-Simplex c).Start c.in-Simplex.is)
 
 pub with_third-requires : goal.with_third-requires
-with_third-requires c =  record { kin_range = search; list_value = rw c.requires.missing_value (nodes_inside _ _) }
+with_third-requires c = record { kin_range = search; list_value = rw c.requires.missing_value (nodes_inside _ _) }

@@ -29,10 +29,10 @@ third_is c =
     c.third_node-third.ensures ∙ rw (p.1, table_at _ _ _ p.0 p.2, table_at _ _ _ p.0 ((let listed_node' : let g = c.args in IsNode g.family g.k c.wide-a.result = let n = outside_none _ _ c.requires.list_value c.loop-i.i (omega arith) in rw c.wide-a.ensures (record { first = n.0; last = n.1 }) in listed_node')), c.wide-a.ensures)
 
 pub offset_bounds-columns-j : goal.offset_bounds-columns-j
-offset_bounds-columns-j c =  omega (arith, c.requires.kin_range.2.last, node_few (goal.at.offset_bounds-columns-j c).Start)
+offset_bounds-columns-j c = omega (arith, c.requires.kin_range.2.last, node_few (goal.at.offset_bounds-columns-j c).Start)
 
 pub bounds-columns-j : goal.bounds-columns-j
-bounds-columns-j c =  omega (arith, c.requires.kin_range.2.last, node_few (goal.at.bounds-columns-j c).Start)
+bounds-columns-j c = omega (arith, c.requires.kin_range.2.last, node_few (goal.at.bounds-columns-j c).Start)
 
 pub third_node-third-requires : goal.third_node-third-requires
 third_node-third-requires c =
@@ -44,4 +44,4 @@ pub loop-i-preserved : goal.loop-i-preserved
 loop-i-preserved c = seeing_more c.loop-i.invariant _ (omega arith) (third_is (goal.at.loop-i-preserved c).After-third_node-third)
 
 pub returns : goal.returns
-returns c =  seeing_done c.loop-i.invariant (omega arith)
+returns c = seeing_done c.loop-i.invariant (omega arith)

@@ -37,7 +37,7 @@ off e = 2 * bool_byte (not (is_live e.args.marks.now e.args.j))
 abbrev left : Start → ℕ
 left e = with_third WeightTwo e.args.k (missing_nodes e.args.marks.now (node_count WeightTwo e.args.k)) e.args.j
 
-whole : (c : After-wide-second) → 
+whole : (c : After-wide-second) →
     left c.before.before.before.before.before.before.before.before.before.before + off c.before.before.before.before.before.before.before.before.before.before ≡ c.wide-first.result + c.wide-second.result
 whole c =
     let p = c.requires.kin_range in
@@ -61,7 +61,7 @@ pub bounds-degrees-first_end : goal.bounds-degrees-first_end
 bounds-degrees-first_end c = first_within (goal.at.bounds-degrees-first_end c).After-first_end
 
 pub second_end-requires : goal.second_end-requires
-second_end-requires c =  omega (arith, column_is (goal.at.second_end-requires c).Start, (column _ _ _ c.requires.kin_range.0 c.requires.kin_range.2).positive)
+second_end-requires c = omega (arith, column_is (goal.at.second_end-requires c).Start, (column _ _ _ c.requires.kin_range.0 c.requires.kin_range.2).positive)
 
 pub offset_bounds-degrees-second_end : goal.offset_bounds-degrees-second_end
 offset_bounds-degrees-second_end c = omega (arith, second_within (goal.at.offset_bounds-degrees-second_end c).After-second_end)

@@ -42,9 +42,9 @@ second_end-requires c =
 
 pub count_end-requires-in-loop-i : goal.count_end-requires-in-loop-i
 count_end-requires-in-loop-i c = (
-      omega (arith, c.second_end.ensures, (column_few (goal.at.count_end-requires-in-loop-i c).After-wide).1),
-      rw c.count_end.ensures (ending_fits c.loop-i.invariant (omega (arith, c.requires.list_value.1)) c.first_end.result c.second_end.result).1,
-    )
+  omega (arith, c.second_end.ensures, (column_few (goal.at.count_end-requires-in-loop-i c).After-wide).1),
+  rw c.count_end.ensures (ending_fits c.loop-i.invariant (omega (arith, c.requires.list_value.1)) c.first_end.result c.second_end.result).1,
+)
 
 pub loop-i-preserved : goal.loop-i-preserved
 loop-i-preserved c =
@@ -52,4 +52,4 @@ loop-i-preserved c =
     (ending_more c.loop-i.invariant _ (omega arith) (column_is (goal.at.loop-i-preserved c).After-wide ∙ rw c.wide.ensures))
 
 pub returns : goal.returns
-returns c =  ending_done c.loop-i.invariant (omega arith)
+returns c = ending_done c.loop-i.invariant (omega arith)

@@ -9,7 +9,7 @@ loop-i-preserved c =
     rw (c.xor_block.ensures, c.wide-node.ensures, c.wide-smaller.ensures, c.wide-larger.ensures) (carry_more c.loop-i.invariant (omega arith))
 
 pub returns : goal.returns
-returns c =  carry_done c.loop-i.invariant (omega arith)
+returns c = carry_done c.loop-i.invariant (omega arith)
 
 pub xor_block-requires : goal.xor_block-requires
 xor_block-requires c =

@@ -17,4 +17,4 @@ loop-i-preserved c =
     rw (c.count_one-in-loop-i.ensures, c.wide-in-loop-i.ensures, c.count_one.ensures, c.wide.ensures) (count_more c.loop-i.invariant (omega arith))
 
 pub returns : goal.returns
-returns c =  count_done c.loop-i.invariant (omega arith)
+returns c = count_done c.loop-i.invariant (omega arith)

@@ -47,7 +47,7 @@ count_live-live_count-requires c =
     omega (arith, c.node_count-n.ensures, few _ _ c.loop-family.invariant.range)
 
 pub overflow_sub-result : goal.overflow_sub-result
-overflow_sub-result c =  rw c.count_live-live_count.ensures (live_nodes_few c.loop-family.marks _)
+overflow_sub-result c = rw c.count_live-live_count.ensures (live_nodes_few c.loop-family.marks _)
 
 pub plan_round-made-requires : goal.plan_round-made-requires
 plan_round-made-requires c =

@@ -40,14 +40,12 @@ live_fits c = fits_in c.count_live-count.result c.list_live-list.result _ ((let 
 next_found : (c : After-find_next-found) → let g = c.args in
     c.find_next-found.result ≡ found_at g.family g.k c.loop-count.free (missing_counts g.family g.k g.marks.now) (first_from (is_repaired g.family g.k g.marks.now c.loop-count.free) (suc c.loop-count.node) (node_count g.family g.k - c.loop-count.node))
 next_found c =
-    
     let b = c.loop-count.invariant in
     found_next _ _ c.requires.kin_range.0 c.args.marks.now c.loop-count.free b.1.live c.loop-count.node b.1.within b.0 c.find_next-found.ensures
 
 -- the repair that was found
 found : (c : Else-found-eq0) → let g = c.args in Next g.family g.k g.marks.now g.round c.loop-count.free c.loop-count.node c.find_next-found.result
 found c =
-    
     next_some _ _ _ _ _ _ _ _ (next_found (search)) c.requires.kin_range.0 c.loop-count.invariant.1.within c.if-found-eq0.false
 
 -- how many nodes may be read
@@ -58,7 +56,7 @@ pub count_live-count-requires : goal.count_live-count-requires
 count_live-count-requires c = omega (arith, c.node_count-n.ensures, node_few (goal.at.count_live-count-requires c).Start)
 
 pub overflow_sub-missing : goal.overflow_sub-missing
-overflow_sub-missing c =  omega (arith, counted (goal.at.overflow_sub-missing c).After-count_live-count, c.node_count-n.ensures, live_nodes_few c.args.marks.now (node_count c.args.family c.args.k))
+overflow_sub-missing c = omega (arith, counted (goal.at.overflow_sub-missing c).After-count_live-count, c.node_count-n.ensures, live_nodes_few c.args.marks.now (node_count c.args.family c.args.k))
 
 pub list_live-list-requires : goal.list_live-list-requires
 list_live-list-requires c = omega (arith, c.node_count-n.ensures, node_few (goal.at.list_live-list-requires c).Start)
@@ -75,16 +73,13 @@ bounds-next-node c = omega (arith, (found (goal.at.bounds-next-node c).Else-foun
 
 pub loop-count-smaller : goal.loop-count-smaller
 loop-count-smaller c =
-    
     let n = found (goal.at.loop-count-smaller c).Else-found-eq0 in
     omega (arith, n.above, n.last, c.node_count-n.ensures)
 
 pub loop-count-preserved : goal.loop-count-preserved
 loop-count-preserved c =
-    
     let b = c.loop-count.invariant in
-    let w = c.read_pair.ensures in
-     (
+    let w = c.read_pair.ensures in (
       b.0,
       rw (c.put_step.ensures, add-sub_cancel_left (c.args.from + 4 * c.loop-count.steps) 4, w.free_after)
           (round_more b.1 _ (found (goal.at.loop-count-preserved c).Else-found-eq0) _ (omega (arith, c.read_pair.auto.list, free_count (goal.at.loop-count-preserved c).At-loop-count)) (rw (free_count (goal.at.loop-count-preserved c).At-loop-count, c.node_count-n.ensures) at w.list_after)),
@@ -113,7 +108,6 @@ returns-then-found-eq0 c =
 
 pub put_step-requires : goal.put_step-requires
 put_step-requires c =
-    
     let n = found (goal.at.put_step-requires c).Else-found-eq0 in
     let h = node_few (goal.at.put_step-requires c).Start in
     let at = c.args.from + 4 * c.loop-count.steps in
@@ -122,9 +116,7 @@ put_step-requires c =
 -- the last step where every missing node is repaired by it
 pub returns-then-steps-missing : goal.returns-then-steps-missing
 returns-then-steps-missing c =
-    
     let l = counted (goal.at.returns-then-steps-missing c).After-count_live-count in
-    
     let q = round_last c.loop-count.invariant.1 _ (found (goal.at.returns-then-steps-missing c).Else-found-eq0) (omega (arith, l, c.node_count-n.ensures, c.if-steps-missing.true)) in
     rw (c.put_step.ensures, add-sub_cancel_left (c.args.from + 4 * c.loop-count.steps) 4) (record { value = q.0; out_after = q.1; next_after = q.2 })
 
@@ -136,7 +128,6 @@ read_pair-requires c =
 
 pub returns : goal.returns
 returns c =
-    
     let w = c.loop-count.invariant.1 in
     let few = ap length w.nodes in
     rw (round_done w (all_read once _ _ c.args.marks.now c.requires.kin_range.0 c.args.round c.loop-count.free _ (omega (arith, few, free_count (goal.at.returns c).At-loop-count)))) (record { value = w.count_is; out_after = w.bytes; next_after = w.marked })
