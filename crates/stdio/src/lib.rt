@@ -93,3 +93,6 @@ pub fn print(rt: &(impl Print + Eprint), bytes: &[u8]) {
         let _ = rt.eprint("cannot write\n");
     }
 }
+
+#[cfg(test)]
+mod tests;
