@@ -162,6 +162,7 @@ class Function:
                 self.arms[plain(new)] = self.arms[plain(old)]
         self.words = words
         self.cited = set()
+        self.projections = set()
 
     def tied(self, name):
         for head in ("invariant-", "decreases-"):
@@ -187,7 +188,7 @@ class Function:
         new = self.steps.get(plain(first), self.words.get(plain(first), first) if "-" in first else first)
         if new.startswith("if-") and rest and rest[0] in ("taken", "left"):
             rest = [{"taken": "true", "left": "false"}[rest[0]]] + rest[1:]
-        rest = self.by_clause(new, rest)
+        rest = ["invariant" if s == "inv" else s for s in self.by_clause(new, rest)]
         return [new] + [self.words.get(plain(s), s) if "-" in s and plain(s) in self.words else s for s in rest]
 
     def by_clause(self, first, rest):
@@ -200,12 +201,19 @@ class Function:
         return rest
 
     def term(self, text, answer):
-        """A body with the places' fields named as today; in an answer a place is one step further in."""
+        """A declaration or a body with the places' fields named as today."""
+        places = {"c"} | set(re.findall(r"(?:let |\()(" + WORD + r") : tie\.(?!Need)", text))
+        places |= set(re.findall(r"let (" + WORD + r") = c(?:\.before)* in", text))
+        places |= set(m[0] for m in re.findall(r"let (" + WORD + r") = \(?(" + WORD + r") ", text) if m[1] in self.projections)
 
         def one(m):
             var, segs = m[1], m[2].split(".")[1:]
+            if var != "tie" and var not in places:
+                return var + "".join("." + ("invariant" if s == "inv" else self.words.get(plain(s), s) if "-" in s else s) for s in segs)
             if var == "tie":
                 name = self.tied(".".join(segs))
+                if name.startswith(("invariant-", "decreases-")):
+                    return "goal." + name
                 self.cited.add(name)
                 return name + "\0"
             path = self.path(segs)
@@ -217,9 +225,40 @@ class Function:
 
         text = re.sub(r"(?<![^\s(){};,\[\]\\λ←])(" + WORD + r")((?:\.[^\s(){}.;,\[\]]+)+)", one, text)
         # fields behind a bracket: (start c).args
-        text = re.sub(r"(?<=\))((?:\.[^\s(){}.;,\[\]]+)+)", lambda m: "." + ".".join(self.path(m[1].split(".")[1:])) if self.path(m[1].split(".")[1:]) else m[1], text)
+        def behind(m):
+            segs = m[1].split(".")[1:]
+            # the bracket that is closed here
+            k, deep = m.start() - 1, 0
+            while k >= 0:
+                deep += (m.string[k] == ")") - (m.string[k] == "(")
+                if deep == 0:
+                    break
+                k -= 1
+            head = re.match(WORD, m.string[k + 1:])
+            if head and head[0] in self.projections:
+                path = self.path(segs)
+                return "".join("." + s for s in path) if path else m[1]
+            return "".join("." + (self.words.get(plain(s), s) if "-" in s else s) for s in segs)
+
+        text = re.sub(r"(?<=\))((?:\.[^\s(){}.;,\[\]]+)+)", behind, text)
+        # a place from one further in is found by its type
+        text = re.sub(r"^((?:abbrev )?" + WORD + r" : tie\.[^\n]*→ tie\.[^\n]*\n" + WORD + r" " + WORD + r" =)\s*\(?[^\n]*$", r"\1 search", text) if re.search(r"^(?:abbrev )?" + WORD + r" : [^\n]*→ tie\.", text) else text
         # a place has the invariants and measures already
         text = re.sub(r"\0((?: [^\s(){}]*(?:invariant|decreases|Inv|μ)[^\s(){}]*)*)", "", text)
+        # what a test of !x says is said of x
+        text = re.sub(r"not-(?:true|false) (?:_|\S+) (c\.if-not-[^\s()]+\.(?:true|false))", r"\1", text)
+        # a place that is found by its type: its fields are the goal's own
+        for m in re.finditer(r"\n?[ \t]*let (" + WORD + r") : ((?:After|Then|Else|In|At|Own)-[^\s)]+|Start) = search in", text):
+            var, place = m[1], m[2]
+            text = text.replace(m[0], "", 1)
+            # a nearer name that hides it
+            if re.search(r"λ[^.]*(?<![^\s(λ])" + re.escape(var) + r"(?=[\s.:])", text):
+                text = re.sub(r"λ " + re.escape(var) + r"\. ((?:[^()]|\([^()]*\))*)", lambda n: "λ " + var + "'. " + re.sub(r"(?<![^\s(){};,\[\]])" + re.escape(var) + r"(?![\w'-])", var + "'", n[1]), text)
+            if re.search(r"let " + re.escape(var) + r" = ", text):
+                print(f"  {var} is bound again: {m[0].strip()}")
+                continue
+            text = re.sub(r"(?<![^\s(){};,\[\]])" + re.escape(var) + r"(?=\.)", "c", text)
+            text = re.sub(r"(?<![^\s(){};,\[\]])" + re.escape(var) + r"(?=[\s)};,]|$)", "(goal.at.\1 c)." + place if answer else "(search)", text)
         # names for a contract, or for what a call ensures
         for m in re.finditer(r"let (" + WORD + r") = " + r"([^\s(){};,\[\]]+)\.(requires|ensures) in", text):
             var, path, kind = m[1], m[2].split("."), m[3]
@@ -243,9 +282,13 @@ def main_turn(names, crate):
             print(f"{path}: no names")
             continue
         own = all_clauses.get(name_of + "::" + local.replace(".", "::").replace("+", ""), {"requires": [], "ensures": []})
-        fn = Function(listed[key[0]], words, own, all_clauses)
+        of_listed = listed[key[0]]
+        needs_too = {}
+        fn = Function(of_listed, words, own, all_clauses)
         with open(path, encoding="utf-8") as f:
             text = f.read()
+        text = re.sub(r"(?<![^\s(])Place (tie\.[^\s)]+)", r"\1", text)
+        text = re.sub(r"\n(?:--[^\n]*\n)*abbrev Place : [^\n]*\nPlace [^\n]*\n", "\n", text)
         head, found = blocks(text)
         comment = [l for l in head if l.startswith("--") and "Assumes nothing" not in l]
         uses = [l for l in head if l.startswith("use ") and not l.endswith((".Statement.{statement}", ".Tie as tie"))]
@@ -282,6 +325,8 @@ def main_turn(names, crate):
                 answers[name] = (t[1], notes, code)
                 continue
             helpers.append((name, block))
+            if re.search(r"→ tie\.(?!Need)[^→]*$", kind):
+                fn.projections.add(name)
         # which answer is for which goal: by the places in the list that closes the proof
         given = {}
         if spec:
@@ -366,14 +411,28 @@ def main_turn(names, crate):
             m = re.match(r"^(?:--[^\n]*\n)*(?:pub )?(?:abbrev )?" + WORD + r"\s*:\s*\((" + WORD + r") : ((?:After|Then|Else|In|At|Own)-[^\s)]+|Start)", text)
             if m:
                 takes[name] = m[2]
+        placed = {new: at[1] for (old, new), at in zip(of_listed["needs"], of_listed["asked_at"])}
+        local_goal = {a: g for g, a in given.items() if g != "args" and a in answers}
         for goal in list(store):
+            store[goal] = store[goal].replace("goal.at.\1", "goal.at." + goal)
+            k = store[goal].index("=", store[goal].index("\n" + goal)) + 1
+            top, store[goal] = store[goal][:k], store[goal][k:]
+            for a, g in local_goal.items():
+                if g == goal:
+                    continue
+                cite = re.compile(r"(?<![^\s(){};,\[\]])" + re.escape(a) + r" (?:\(search\)|c(?:\.before)*(?=[\s)])|c(?:\.before)*$|" + WORD + r"|\([^()]*\))")
+                if cite.search(store[goal]):
+                    store[goal] = cite.sub(lambda m: f"{g} (goal.at.{goal} c).{placed[g]}", store[goal])
+                    fn.cited.add(placed[g])
+                    needs_too.setdefault(goal, []).append(g)
+            store[goal] = top + store[goal]
             for h, place in takes.items():
                 store[goal] = re.sub(r"(?<![^\s(])" + re.escape(h) + r" (?:\(search\)|c(?:\.before)*(?=[\s)])|c(?:\.before)*$)", f"{h} (goal.at.{goal} c).{place}", store[goal])
         left = {n: "\n".join(v[1] + v[2]) for n, v in answers.items() if n not in given.values()}
         out = os.path.join(crate, "out/port", local)
         os.makedirs(out, exist_ok=True)
         with open(os.path.join(out, "store.json"), "w", encoding="utf-8") as f:
-            json.dump({"comment": comment, "uses": uses, "store": store, "helpers": kept, "left": left, "unknown": unknown, "cited": sorted(fn.cited), "crate": name_of, "local": local, "folder": os.path.relpath(folder, crate)}, f, ensure_ascii=False, indent=1)
+            json.dump({"comment": comment, "uses": uses, "store": store, "helpers": kept, "left": left, "unknown": unknown, "cited": sorted(fn.cited), "needs_too": needs_too, "crate": name_of, "local": local, "folder": os.path.relpath(folder, crate)}, f, ensure_ascii=False, indent=1)
         os.replace(path, os.path.join(out, "Proof.antt"))
         for u in unknown:
             print(f"{local}: {u}")
@@ -454,6 +513,16 @@ def write(s, crate, goals):
             have = f.read()
         had = re.findall(r"^pub (\S+) : goal\.", have, re.M)
     goals = [g for g in goals if g not in had]
+    more = True
+    while more:
+        more = False
+        for g in list(goals):
+            for n in s["needs_too"].get(g, []):
+                if n not in had and n not in goals:
+                    goals.append(n)
+                    more = True
+    order = list(s["store"])
+    goals.sort(key=lambda g: order.index(g) if g in order else len(order))
     known = [s["store"][g] for g in had if g in s["store"]]
     parts = []
     for g in had + goals:

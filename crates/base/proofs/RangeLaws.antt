@@ -161,11 +161,11 @@ pub outside_low : (least most number : ℕ) → number < least → outside least
 outside_low least most number h = rw (lt-ltb number least h)
 
 pub outside_high : (least most number : ℕ) → most < number → outside least most number ≡ true
-outside_high least most number h = or_true (ltb number least) (ltb most number) (lt-ltb most number h)
+outside_high least most number h = or-true (ltb number least) (ltb most number) (lt-ltb most number h)
   where
-    or_true : (a b : Bool) → b ≡ true → (a || b) ≡ true
-    or_true true b e = refl
-    or_true false b e = e
+    or-true : (a b : Bool) → b ≡ true → (a || b) ≡ true
+    or-true true b e = refl
+    or-true false b e = e
 
 pub outside_no : (least most number : ℕ) → least ≤ number → number ≤ most → outside least most number ≡ false
 outside_no least most number h g = simp (le-ltb number least h, le-ltb most number g)

@@ -6,7 +6,7 @@ use mathlib.Core.List.{List, [], ◌∷◌, ◌++◌}
 use mathlib.Core.Logic.{⊎_elim}
 use Prim.Native.Nat.{ℕ, ◌+◌, ◌*◌, ◌≤◌, ◌<◌}
 use native.Mathlib.Omega.{arith}
-use borrow.Author.Tests.{lt-ltb, le-ltb, eq-eqb, ne_eqb, ltb-true, ltb-false, eqb-false, not_true, not-false}
+use borrow.Author.Tests.{lt-ltb, le-ltb, eq-eqb, ne_eqb, ltb-true, ltb-false, eqb-false, not-true, not-false}
 use lib.Dec.{eqb, ltb}
 use lib.ListN.{length, get_or}
 use lib.Seq.{drop-drop}
@@ -70,7 +70,7 @@ module _ (bytes : List ℕ) where
       record {
         head = head e.0;
         many = ltb-true (node_count_in bytes) (held_count_in bytes) e.1;
-        wrong_size = eqb-false (length bytes) (box_length (held_count_in bytes) (block_length_in bytes)) (not_true right e.2);
+        wrong_size = eqb-false (length bytes) (box_length (held_count_in bytes) (block_length_in bytes)) (not-true right e.2);
       }
 
   module _ (later : List Check) where

@@ -1,7 +1,7 @@
 -- The known columns, 0 and those of the live nodes, and their XORs where no pair is left.
 -- Assumes nothing.
 use mathlib.Core.Path.{◌≡◌, refl, sym, ap, ap₂, ◌∙◌}
-use mathlib.Core.Bool.{Bool, true, false, ◌&&◌, ◌||◌, or_true}
+use mathlib.Core.Bool.{Bool, true, false, ◌&&◌, ◌||◌, or-true}
 use mathlib.Core.Logic.{inl, inr, ⊎_elim}
 use Prim.Native.Nat.{ℕ, ◌^◌, ◌<◌}
 use native.Mathlib.Omega.{arith}
@@ -36,7 +36,7 @@ module _ (f : Family) (k : ℕ) (r : KInRange f k) (live : ℕ → Bool) where
   is_known {c} (nothing e) = rw (eq-eqb c 0 e)
   is_known {c} (of_node m n l e) =
       let i : node_of f k c ≡ m = node_is f k r c m n e in
-      rw (i, lt-ltb 0 m n.first, l) (or_true (eqb c 0))
+      rw (i, lt-ltb 0 m n.first, l) (or-true (eqb c 0))
 
   pub known_zero : known 0 ≡ true
   known_zero = is_known (nothing refl)

@@ -5,7 +5,7 @@ use mathlib.Core.Bool.{Bool, false, not}
 use mathlib.Core.List.{List}
 use mathlib.Core.Logic.{◌↔◌}
 use Prim.Native.Nat.{ℕ, ◌≤◌, ◌<◌}
-use borrow.Author.Tests.{not_true}
+use borrow.Author.Tests.{not-true}
 use lib.ListN.{length, get_or}
 use Rattle.base.specs.Ranges.{those_from}
 use Rattle.base.proofs.Tests.{is_false}
@@ -37,6 +37,6 @@ module _ (f : Family) (k : ℕ) (r : KInRange f k) (list : List ℕ) (nodes : (i
   missing_count =
       record {
         test = λ j. not (live j);
-        decides = λ j n. ((λ t. (missing_is_open j n).0 (not_true (live j) t)), (λ o. ap not ((missing_is_open j n).1 o)));
+        decides = λ j n. ((λ t. (missing_is_open j n).0 (not-true (live j) t)), (λ o. ap not ((missing_is_open j n).1 o)));
         counts = refl;
       }

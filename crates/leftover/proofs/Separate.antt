@@ -1,7 +1,7 @@
 -- A set of numbers that is closed under XOR and a number outside it are told apart by a choice of digits.
 -- Assumes nothing.
 use mathlib.Core.Path.{◌≡◌, refl, sym, ap, ap₂, ◌∙◌}
-use mathlib.Core.Bool.{Bool, true, false, cond, ◌||◌, or_true, or_comm}
+use mathlib.Core.Bool.{Bool, true, false, cond, ◌||◌, or-true, or_comm}
 use mathlib.Core.Logic.{◌⊎◌, inl, inr, ⊎_elim}
 use Prim.Native.Nat.{ℕ, zero, suc, ◌^◌, ◌<◌}
 use native.Mathlib.Nat.{le_of_suc-le-suc, not-suc-le-zero, eq-or-lt_of_le}
@@ -41,7 +41,7 @@ module _ (S : ℕ → Bool) (e : ℕ) where
 
   pub widen_by : (x : ℕ) → S (bit_xor x e) ≡ true → widened x ≡ true
   unfolding widened
-  widen_by x h = rw h (or_true (S x))
+  widen_by x h = rw h (or-true (S x))
 
   turn : (x : ℕ) → widened (bit_xor x e) ≡ widened x
   unfolding widened

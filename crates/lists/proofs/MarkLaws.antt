@@ -32,9 +32,9 @@ live_append marks [] b = refl
 live_append marks (x ∷ a) b = live_append (set marks x true) a b
 
 -- a number of the list is live
-pub live_listed_lem : (marks : List Bool) {list : List ℕ} {j : ℕ} → j < length marks → Memᴰ j list → is_live (set_live marks list) j ≡ true
+pub live_listed_lem : {j : ℕ} {list : List ℕ} (marks : List Bool) → j < length marks → Memᴰ j list → is_live (set_live marks list) j ≡ true
 unfolding set_live
-live_listed_lem marks {j = j} h (Memᴰ.head {x} {xs} e) = live_keeps (set marks x true) xs j (rw (sym e) (get_or-set_same marks j true false h))
+live_listed_lem {j = j} marks h (Memᴰ.head {x} {xs} e) = live_keeps (set marks x true) xs j (rw (sym e) (get_or-set_same marks j true false h))
 live_listed_lem marks h (Memᴰ.tail {x} m) = live_listed_lem (set marks x true) (omega (arith, length-set marks x true)) m
 
 -- one that becomes live is a number of the list

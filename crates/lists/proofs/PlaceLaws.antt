@@ -6,7 +6,7 @@ use mathlib.Core.List.{List, [], ◌∷◌}
 use Prim.Native.Nat.{ℕ, zero, suc, ◌+◌, ◌≤◌, ◌<◌}
 use native.Mathlib.Nat.{zero-add}
 use native.Mathlib.Omega.{arith}
-use borrow.Author.Tests.{ltb-true, lt-ltb, eqb-true, eqb-false, eq-eqb, ne_eqb, not_true}
+use borrow.Author.Tests.{ltb-true, lt-ltb, eqb-true, eqb-false, eq-eqb, ne_eqb, not-true}
 use lib.Dec.{eqb}
 use lib.ListN.{length, get_or, set, take, drop, length-set, drop_of_length-le, replicate, get_or-replicate}
 use lib.Seq.{drop-cons, ext_get_or, get_or-set_same, get_or-set_other}
@@ -68,7 +68,7 @@ distinct (x ∷ list) = not (is_in list x) && distinct list
 -- the first is not among the others, and of these no number stands twice
 pub distinct_both : (x : ℕ) (list : List ℕ) → distinct (x ∷ list) ≡ true → (is_in list x ≡ false) × (distinct list ≡ true)
 unfolding distinct
-distinct_both x list d = (not_true (is_in list x) (and_left (not (is_in list x)) (distinct list) d), and_right (not (is_in list x)) (distinct list) d)
+distinct_both x list d = (not-true (is_in list x) (and_left (not (is_in list x)) (distinct list) d), and_right (not (is_in list x)) (distinct list) d)
 
 pub distinct_cons : (x : ℕ) (list : List ℕ) → is_in list x ≡ false → distinct list ≡ true → distinct (x ∷ list) ≡ true
 unfolding distinct

@@ -1,7 +1,7 @@
 -- The nodes that may still be read in a round: those live when it began that no step reads; and so none is read twice.
 -- Assumes nothing.
 use mathlib.Core.Path.{◌≡◌, refl, sym, ap, ◌∙◌}
-use mathlib.Core.Bool.{Bool, true, false, cond, ◌||◌, or_true, true≢false, false≢true}
+use mathlib.Core.Bool.{Bool, true, false, cond, ◌||◌, or-true, true≢false, false≢true}
 use mathlib.Core.List.{List, [], ◌∷◌, ◌++◌}
 use mathlib.Core.Logic.{◌⊎◌, inl, inr, ◌↔◌}
 use Prim.Native.Nat.{ℕ, ◌+◌, ◌≤◌, ◌<◌}
@@ -54,7 +54,7 @@ module _ (free : List Bool) (step : Step) (i : ℕ) where
   zero_unread e =
       record {
         smaller = λ q. absurd (true≢false (rw (eq-eqb i step.smaller q) at e));
-        larger = λ q. absurd (true≢false (rw (eq-eqb i step.larger q, or_true (eqb i step.smaller)) at e));
+        larger = λ q. absurd (true≢false (rw (eq-eqb i step.larger q, or-true (eqb i step.smaller)) at e));
       }
 
 -- ---- steps of a round

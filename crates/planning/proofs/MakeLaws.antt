@@ -8,7 +8,7 @@ use mathlib.Core.Logic.{◌⊎◌, inl, inr}
 use Prim.Native.Nat.{ℕ, zero, suc, ◌+◌, ◌-◌, ◌≤◌, ◌<◌}
 use native.Mathlib.Nat.{eq-zero-or-pos}
 use native.Mathlib.Omega.{arith}
-use borrow.Author.Tests.{lt-ltb, ltb-true, eq-eqb, ne_eqb, not_true}
+use borrow.Author.Tests.{lt-ltb, ltb-true, eq-eqb, ne_eqb, not-true}
 use lib.Dec.{eqb, ltb}
 use lib.ListN.{length, set, length-set}
 use lib.Seq.{get_or-set_same, get_or-set_other}
@@ -56,7 +56,7 @@ module _ (f : Family) (k : ℕ) (marks free : List Bool) (j : ℕ) where
   -- it is missing then, and has a smaller node
   pub repaired_missing : is_repaired f k marks free j ≡ true → is_live marks j ≡ false
   unfolding is_repaired
-  repaired_missing e = not_true (is_live marks j) (and_left (not (is_live marks j)) (ltb 0 (smaller_node f k free j)) e)
+  repaired_missing e = not-true (is_live marks j) (and_left (not (is_live marks j)) (ltb 0 (smaller_node f k free j)) e)
 
   pub repaired_smaller : is_repaired f k marks free j ≡ true → 1 ≤ smaller_node f k free j
   unfolding is_repaired

@@ -9,7 +9,7 @@ use Prim.Native.Nat.{ℕ, zero, suc, ◌+◌, ◌≤◌, ◌<◌}
 use native.Mathlib.Decide.{ℕ_discrete}
 use native.Mathlib.Nat.{eq-zero-or-pos}
 use native.Mathlib.Omega.{arith}
-use borrow.Author.Tests.{lt-ltb, le-ltb, not_true}
+use borrow.Author.Tests.{lt-ltb, le-ltb, not-true}
 use lib.Dec.{ltb}
 use Rattle.base.specs.Ranges.{those_from}
 use Rattle.base.proofs.RangeLaws.{Passing, those_are}
@@ -147,7 +147,7 @@ module _ (f : Family) (k : ℕ) (marks : List Bool) (r : ℕ) where
     is_missing : (step : Step) → Memᴰ step steps → IsNode f k step.node × (is_live marks step.node ≡ false)
     is_missing step h =
         let p = repaired step h in
-        (record { first = p.from; last = omega (arith, p.below) }, not_true (is_live marks step.node) p.passes)
+        (record { first = p.from; last = omega (arith, p.below) }, not-true (is_live marks step.node) p.passes)
 
     turn_of : (i : ℕ) → IsNode f k i → is_live marks i ≡ false → Turn steps i
     unfolding free_after

@@ -1,7 +1,7 @@
 -- What the checks of a start and of a session say.
 -- Assumes nothing.
 use mathlib.Core.Path.{◌≡◌, refl, ◌∙◌}
-use mathlib.Core.Bool.{Bool, true, false, not, or_true, or-false}
+use mathlib.Core.Bool.{Bool, true, false, not, or-true, or-false}
 use mathlib.Core.List.{List}
 use Prim.Native.Nat.{ℕ, ◌+◌, ◌*◌, ◌≤◌, ◌<◌}
 use native.Mathlib.Omega.{arith}
@@ -69,11 +69,11 @@ module _ (s : Session) where
 
   pub miscounted_steps : length (live_nodes s.live (node_count_of s)) < s.steps → miscounted s ≡ true
   unfolding miscounted
-  miscounted_steps h = rw (more_steps, lt-ltb _ _ h, or_true, or_true)
+  miscounted_steps h = rw (more_steps, lt-ltb _ _ h, or-true, or-true)
 
   pub miscounted-outside : counted_outside (node_count_of s) s.reads ≡ true → miscounted s ≡ true
   unfolding miscounted
-  miscounted-outside o = rw (o, or_true)
+  miscounted-outside o = rw (o, or-true)
 
   pub miscounted_sum : s.steps ≤ length (live_nodes s.live (node_count_of s)) → counted_outside (node_count_of s) s.reads ≡ false
       → miscounted s ≡ not (eqb (sum_of s.reads) (2 * s.steps))

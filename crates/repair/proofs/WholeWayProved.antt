@@ -53,9 +53,9 @@ use Rattle.repair.proofs.CallLaws.{FromStart, from_start}
 use Rattle.repair.proofs.OwnLaws.{ran_sized}
 use Rattle.repair.proofs.FitsLaws.{session_started, start_fits, read_same, read_fits, fits_runs, fits_call, same_code, fits_list, fits_write}
 
-not_true : (b : Bool) → not b ≡ true → b ≡ false
-not_true true h = absurd (false≢true h)
-not_true false h = refl
+not-true : (b : Bool) → not b ≡ true → b ≡ false
+not-true true h = absurd (false≢true h)
+not-true false h = refl
 
 -- ---- a session and a nodes buffer that go together
 
@@ -243,7 +243,7 @@ module _ (s : Session) (nodes result : List ℕ) (fits : Fits s nodes) (size : l
       node = (data_node_lem code s.k i (known s fits.sound).range.blocks l h).is_node
 
       gone_open : gone i ≡ true → Open code s.k M list (data_node code s.k i)
-      gone_open g = (missing _ node).0 (not_true _ g)
+      gone_open g = (missing _ node).0 (not-true _ g)
 
       there_shut : gone i ≡ false → Open code s.k M list (data_node code s.k i) → ⊥
       there_shut g o = false≢true (sym ((missing _ node).1 o) ∙ not-false _ g)

@@ -6,7 +6,7 @@ use mathlib.Core.List.{List, [], ◌∷◌, ◌++◌, append_assoc, append-nil, 
 use mathlib.Core.Logic.{◌⊎◌, inl, inr}
 use Prim.Native.Nat.{ℕ, suc, ◌+◌, ◌≤◌, ◌<◌}
 use native.Mathlib.Omega.{arith}
-use borrow.Author.Tests.{leb-true, le-leb, ltb-true, lt-ltb, eqb-true, eq-eqb, not_true}
+use borrow.Author.Tests.{leb-true, le-leb, ltb-true, lt-ltb, eqb-true, eq-eqb, not-true}
 use lib.Dec.{leb, ltb}
 use lib.ListN.{length, length-append}
 use Rattle.base.proofs.Tests.{and_left, and_right, and_both, not_both}
@@ -89,7 +89,7 @@ module _ (f : Family) (k : ℕ) (marks : List Bool) (earlier : List Step) (step 
       let round = follows_is (last_round earlier) step.round (and_left (follows (last_round earlier) step.round) _ e) in
       let e1 = and_right (follows (last_round earlier) step.round) _ e in
       let outside = some_outside (node_count f k) (numbers f k step) in
-      let nodes = nodes_are f k step (not_true outside (and_left (not outside) _ e1)) in
+      let nodes = nodes_are f k step (not-true outside (and_left (not outside) _ e1)) in
       let e2 = and_right (not outside) _ e1 in
       let e3 = and_right (ltb step.smaller step.larger) _ e2 in
       let live = is_live (marks_after marks earlier) step.node in
@@ -106,7 +106,7 @@ module _ (f : Family) (k : ℕ) (marks : List Bool) (earlier : List Step) (step 
         smaller = nodes.smaller;
         larger = nodes.larger;
         order = ltb-true step.smaller step.larger (and_left (ltb step.smaller step.larger) _ e2);
-        missing = not_true live (and_left (not live) _ e3);
+        missing = not-true live (and_left (not live) _ e3);
         related = and_left related _ e4;
         smaller_live = small.live;
         larger_live = large.live;

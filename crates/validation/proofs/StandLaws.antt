@@ -8,7 +8,7 @@ use mathlib.Core.Logic.{◌⊎◌, inl, inr}
 use Prim.Native.Nat.{ℕ, ◌≤◌, ◌<◌}
 use native.Mathlib.Decide.{ℕ_discrete}
 use native.Mathlib.Omega.{arith}
-use borrow.Author.Tests.{lt-ltb, le-ltb, eqb-true, eq-eqb, ne_eqb, not_true}
+use borrow.Author.Tests.{lt-ltb, le-ltb, eqb-true, eq-eqb, ne_eqb, not-true}
 use lib.Dec.{eqb, ltb}
 use lib.ListN.{set}
 use Rattle.base.proofs.Tests.{and_left, and_right, and_both, same_answer}
@@ -104,7 +104,7 @@ module _ (marks : List Bool) (earlier : List Step) (last : ℕ) (live free : Lis
       by_makes =
           let e1 = and_right (follows last step.round) _ e in
           let outside = some_outside (node_count f k) (numbers f k step) in
-          let nodes = nodes_are f k step (not_true outside (and_left (not outside) _ e1)) in
+          let nodes = nodes_are f k step (not-true outside (and_left (not outside) _ e1)) in
           let e3 = and_right (ltb step.smaller step.larger) _ (and_right (not outside) _ e1) in
           let e4 = and_right (not (is_live live step.node)) _ e3 in
           let related = are_related f k step.smaller step.larger step.node in
@@ -114,7 +114,7 @@ module _ (marks : List Bool) (earlier : List Step) (last : ℕ) (live free : Lis
             smaller = nodes.smaller;
             larger = nodes.larger;
             related = and_left related _ e4;
-            missing = not_true (is_live live step.node) (and_left (not (is_live live step.node)) _ e3);
+            missing = not-true (is_live live step.node) (and_left (not (is_live live step.node)) _ e3);
             smaller_live = free_live step.round step.smaller (and_left (is_live here step.smaller) _ e5);
             larger_live = free_live step.round step.larger (and_right (is_live here step.smaller) _ e5);
           }

@@ -6,7 +6,7 @@ use mathlib.Core.List.{List}
 use Prim.Native.Nat.{ℕ, ◌+◌, ◌*◌, ◌≤◌, ◌<◌}
 use native.Mathlib.Nat.{mul-le-mul}
 use native.Mathlib.Omega.{arith}
-use borrow.Author.Tests.{lt-ltb, le-ltb, eq-eqb, ne_eqb, not_true, not-false}
+use borrow.Author.Tests.{lt-ltb, le-ltb, eq-eqb, ne_eqb, not-true, not-false}
 use borrow.Author.Rules.{rules}
 use lib.ListN.{length}
 use Rattle.boxes.specs.Box.{held_count_in, block_length_in, zeros_in, node_count_in, box_length}
@@ -37,7 +37,7 @@ full_is : (c : tie.After-node-count) → let h = c.before.before in 8 + h.held-c
 full_is c = let h : tie.After-held-count = search in let l : tie.After-block-length = search in ap₂ box_length h.held-count.ensures l.block-length.ensures
 
 returns : tie.Need-returns
-returns c = sym (by_tests (box (search)) (sym (zeros_are (search)) ∙ not_true _ c.if1.true) refl refl)
+returns c = sym (by_tests (box (search)) (sym (zeros_are (search)) ∙ not-true _ c.if1.true) refl refl)
 
 -- 8 is passed
 zero : (c : tie.Else1) → zeros_in (box c.before) ≡ true

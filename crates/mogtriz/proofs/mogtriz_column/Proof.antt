@@ -1,7 +1,7 @@
 -- `mogtriz::mogtriz_column` meets its contract: where the number is a node's, the family and k are in range.
 -- Assumes nothing.
 use mathlib.Core.Path.{sym, ◌∙◌}
-use borrow.Author.Tests.{not_true, not-false}
+use borrow.Author.Tests.{not-true, not-false}
 use Rattle.mogtriz.specs.Exports.{column_or0}
 use Rattle.mogtriz.proofs.Laws.{node}
 use borrow.Author.Rules.{rules}
@@ -10,7 +10,7 @@ use Rattle.mogtriz.proofs.mogtriz_column.Tie as tie
 
 returns : tie.Need-returns
 unfolding column_or0
-returns c = rw (sym c.before.is_node.ensures ∙ not_true _ c.if1.true)
+returns c = rw (sym c.before.is_node.ensures ∙ not-true _ c.if1.true)
 
 column_requires : tie.Need-column-requires
 column_requires c κs =

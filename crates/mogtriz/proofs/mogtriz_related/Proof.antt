@@ -2,7 +2,7 @@
 -- Assumes nothing.
 use mathlib.Core.Path.{◌≡◌, sym, ◌∙◌}
 use mathlib.Core.Bool.{true}
-use borrow.Author.Tests.{not_true, not-false}
+use borrow.Author.Tests.{not-true, not-false}
 use Rattle.families.specs.Families.{family_of, are_related}
 use Rattle.mogtriz.specs.Exports.{is_node, related_or0}
 use Rattle.mogtriz.proofs.Laws.{node}
@@ -22,15 +22,15 @@ is_related c = sym (rw c.before.family-of.ensures at c.related.ensures)
 
 returns : tie.Need-returns
 unfolding related_or0
-returns c = simp (sym c.before.is_node.ensures ∙ not_true _ c.if1.true)
+returns c = simp (sym c.before.is_node.ensures ∙ not-true _ c.if1.true)
 
 returns_2 : tie.Need-returns-2
 unfolding related_or0
-returns_2 c = simp (sym c.before.before.before.is_node.ensures ∙ not-false _ c.before.before.if1.false, sym c.before.is-node2.ensures ∙ not_true _ c.if2.true)
+returns_2 c = simp (sym c.before.before.before.is_node.ensures ∙ not-false _ c.before.before.if1.false, sym c.before.is-node2.ensures ∙ not-true _ c.if2.true)
 
 returns_3 : tie.Need-returns-3
 unfolding related_or0
-returns_3 c = simp ((two c.before.before).0, (two c.before.before).1, sym c.before.is-node3.ensures ∙ not_true _ c.if3.true)
+returns_3 c = simp ((two c.before.before).0, (two c.before.before).1, sym c.before.is-node3.ensures ∙ not-true _ c.if3.true)
 
 related_requires : tie.Need-related-requires
 related_requires c κs =

@@ -3,7 +3,7 @@
 use mathlib.Core.Path.{◌≡◌, sym, ap, ap₂, ◌∙◌}
 use mathlib.Core.Bool.{true}
 use borrow.Author.Rules.{rules}
-use borrow.Author.Tests.{not_true, not-false}
+use borrow.Author.Tests.{not-true, not-false}
 use borrow.Author.Rules.{part_to_end}
 use lib.ListN.{drop}
 use Rattle.families.specs.Families.{node_count}
@@ -43,7 +43,7 @@ three c = let s = start (round_of c).before in three_bytes s.args.step.now s.pre
 
 returns : tie.Need-returns
 unfolding good_by
-returns c = sym (rw (← round_test c.before, not_true c.before.round-follows.result c.if1.true))
+returns c = sym (rw (← round_test c.before, not-true c.before.round-follows.result c.if1.true))
 
 returns_2 : tie.Need-returns-2
 unfolding good_by

@@ -5,7 +5,7 @@ use mathlib.Core.Bool.{true, false}
 use Prim.Native.Nat.{ℕ}
 use native.Mathlib.Omega.{arith}
 use borrow.Author.Rules.{rules}
-use borrow.Author.Tests.{le-ltb, lt-ltb, not_true, not-false}
+use borrow.Author.Tests.{le-ltb, lt-ltb, not-true, not-false}
 use lib.Dec.{ltb}
 use Rattle.families.specs.declared.Family.{Family}
 use Rattle.families.specs.Families.{IsNode, are_related}
@@ -105,14 +105,14 @@ is_related c = not-false c.before.related-by.result c.if3.false
 returns_3 : tie.Need-returns-3
 returns_3 c =
     let e = c.before.before in
-    sym (rw (in_order (order_of e), is_missing e, ← relation c.before, not_true c.before.related-by.result c.if3.true))
+    sym (rw (in_order (order_of e), is_missing e, ← relation c.before, not-true c.before.related-by.result c.if3.true))
 
 returns_4 : tie.Need-returns-4
 returns_4 c =
     let r = c.before.before in
     let e = missing_of r in
     let w = numbers_of (order_of e) in
-    let read : is_live (start w).args.free.now (step_of w).smaller ≡ false = ap (is_live (start w).args.free.now) (sym (smaller_is w)) ∙ not_true _ c.if4.true in
+    let read : is_live (start w).args.free.now (step_of w).smaller ≡ false = ap (is_live (start w).args.free.now) (sym (smaller_is w)) ∙ not-true _ c.if4.true in
     sym (rw (in_order (order_of e), is_missing e, ← relation r.before, is_related r, read))
 
 returns_5 : tie.Need-returns-5

@@ -4,7 +4,7 @@ use mathlib.Core.Path.{sym, ◌∙◌}
 use Prim.Native.Nat.{◌-◌}
 use native.Mathlib.Omega.{arith}
 use borrow.Author.Rules.{rules}
-use borrow.Author.Tests.{not_true, not-false}
+use borrow.Author.Tests.{not-true, not-false}
 use Rattle.validation.proofs.ValidateLaws.{count, part_length, Checked, check_none, check_done, check_bad, check_more}
 use Rattle.validation.proofs.validate.Statement.{statement}
 use Rattle.validation.proofs.validate.Tie as tie
@@ -38,7 +38,7 @@ returns c =
     let r : Place tie.After-wide = search in
     let e : Place tie.After-enter-round = search in
     let g : Place tie.After-is-good = search in
-    check_bad t.loop.inv (omega arith) r.wide.result _ r.wide.ensures e.enter-round.ensures (sym g.is-good.ensures ∙ not_true g.is-good.result c.if1.true)
+    check_bad t.loop.inv (omega arith) r.wide.result _ r.wide.ensures e.enter-round.ensures (sym g.is-good.ensures ∙ not-true g.is-good.result c.if1.true)
 
 loop_again : tie.Need-loop-preserved invariant-loop decreases-loop
 loop_again c =

@@ -3,7 +3,7 @@
 -- Assumes nothing.
 use borrow.Author.Rules.{rules}
 use mathlib.Core.Path.{◌≡◌, refl, sym, ◌∙◌}
-use mathlib.Core.Bool.{◌||◌, or_true, or-false}
+use mathlib.Core.Bool.{◌||◌, or-true, or-false}
 use Prim.Native.Nat.{◌-◌, ◌≤◌}
 use native.Mathlib.Numerals.{add-one}
 use native.Mathlib.Omega.{arith}
@@ -25,7 +25,7 @@ unfolding some_above1
 loop_again c =
     let t : tie.At-loop invariant-loop decreases-loop = search in
     let e : tie.Start invariant-loop decreases-loop = search in
-    (omega arith, t.loop.inv.1 ∙ rw (drop-cons e.args.t1 t.loop.j 0 (omega arith), lt-ltb 1 _ c.if1.true, or_true))
+    (omega arith, t.loop.inv.1 ∙ rw (drop-cons e.args.t1 t.loop.j 0 (omega arith), lt-ltb 1 _ c.if1.true, or-true))
 
 loop_again_2 : tie.Need-loop-preserved-2 invariant-loop decreases-loop
 unfolding some_above1

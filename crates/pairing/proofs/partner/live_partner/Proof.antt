@@ -3,7 +3,7 @@
 use mathlib.Core.Path.{◌≡◌}
 use Prim.Native.Nat.{◌≤◌}
 use native.Mathlib.Omega.{arith}
-use borrow.Author.Tests.{not_true, not-false}
+use borrow.Author.Tests.{not-true, not-false}
 use Rattle.families.proofs.Laws.{few, column}
 use Rattle.families.proofs.TableLaws.{table_at}
 use Rattle.pairing.proofs.PairLaws.{partner, partner_at, third_few, live_none, live_is}
@@ -33,7 +33,7 @@ element_copy_out_if1 : tie.Need-element-copy-out-if1
 element_copy_out_if1 c = let e : tie.Start = search in omega (arith, is_partner (search), third_few _ _ e.pre.0.0 e.args.j e.args.a)
 
 returns : tie.Need-returns
-returns c = live_none _ _ (search) _ _ _ (is_partner (search)) (not_true _ c.if1.true)
+returns c = live_none _ _ (search) _ _ _ (is_partner (search)) (not-true _ c.if1.true)
 
 returns_2 : tie.Need-returns-2
 returns_2 c = live_is _ _ (search) _ _ _ (is_partner (search)) (not-false _ c.if1.false)
