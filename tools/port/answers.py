@@ -38,7 +38,7 @@ def clauses(root):
         crate = path.split(os.sep)[-3]
         module = os.path.basename(path)[:-3]
         at = crate if module in ("lib", "main") else crate + "::" + module
-        owner, now = "", None
+        owner, now, inside, head = "", None, False, ""
         with open(path, encoding="utf-8") as f:
             for line in f:
                 m = re.match(r"^impl (\w+)", line)
@@ -49,7 +49,14 @@ def clauses(root):
                 m = re.match(r'^\s*(?:pub )?(?:extern "C" )?fn (\w+)', line)
                 if m:
                     now = at + "::" + (owner + "::" if owner else "") + m[1]
-                    found[now] = {"requires": [], "ensures": []}
+                    found[now] = {"requires": [], "ensures": [], "params": []}
+                    head, more = line[m.end():], True
+                    inside = True
+                elif now and inside:
+                    head += line
+                if now and inside and (")" in head):
+                    inside = False
+                    found[now]["params"] = re.findall(r"(?:^|[(,])\s*(?:mut )?(self|\w+)(?=\s*[:,)])", head.split("->")[0])
                 m = CLAUSE.match(line)
                 if m and now:
                     found[now][m[1]].append(m[2])
@@ -91,6 +98,25 @@ def named_record(body, names):
             space = rest[: len(rest) - len(rest.lstrip())]
             return body[:cut] + (space or " ") + "record { " + "; ".join(f"{n} = {p}" for n, p in zip(names, parts)) + " }"
     return body
+
+
+def nearer(text, var):
+    """A name that a λ binds and that hides a place gets a prime."""
+    token = re.compile(r"(?<![^\s(){};,\[\]λ])" + re.escape(var) + r"(?![\w'-])")
+    at = 0
+    while True:
+        m = re.compile(r"\(λ [^.]*?(?<![^\s(λ])" + re.escape(var) + r"(?=[\s.:])").search(text, at)
+        if not m:
+            return text
+        deep, k = 0, m.start()
+        while k < len(text):
+            deep += (text[k] == "(") - (text[k] == ")")
+            k += 1
+            if deep == 0:
+                break
+        inner = token.sub(var + "'", text[m.start():k])
+        text = text[:m.start()] + inner + text[k:]
+        at = m.start() + len(inner)
 
 
 def blocks(text):
@@ -151,6 +177,10 @@ class Function:
             if old:
                 self.steps[plain(old)] = new
                 self.steps.setdefault(plain(new), new)
+        old_new = {place: name for (place, _, _, _, _), name in zip(of["places"], of["places_by_name"])}
+        self.info = {name: (old_new.get(parent), bool(typed)) for (place, parent, _, _, _), name, typed in zip(of["places"], of["places_by_name"], of["typed"])}
+        self.asked = {new: at[1] for (old, new), at in zip(of["needs"], of["asked_at"])}
+        self.results = {}
         # the equation of a match's arm, once a step of its own
         self.arms = {}
         for arm in of["arms"]:
@@ -163,6 +193,16 @@ class Function:
         self.words = words
         self.cited = set()
         self.projections = set()
+        self.takes = {}
+
+    def chain(self, place, to):
+        """A place further out, from c of `place`; found by its type where its record cannot be named."""
+        steps, now = 0, place
+        while now and now != to:
+            now, steps = self.info[now][0] if now in self.info else None, steps + 1
+        if now != to or self.info[to][1]:
+            return "(search)"
+        return "c" + ".before" * (steps + (1 if self.info[place][1] and steps else 0))
 
     def tied(self, name):
         for head in ("invariant-", "decreases-"):
@@ -200,8 +240,52 @@ class Function:
                 return ["ensures", names[int(rest[1])]] + rest[2:]
         return rest
 
-    def term(self, text, answer):
+    def term(self, text, answer, goal=None):
         """A declaration or a body with the places' fields named as today."""
+        # a place that is found by its type: its fields are those of c
+        while True:
+            m = re.search(r"\n?[ \t]*(?<=[\s(])let (" + WORD + r") : tie\.([^\s)]+)(?: [^\s()=]+)* = search in", text)
+            if not m:
+                break
+            place = self.tied(m[2])
+            rest = nearer(text[m.end():], m[1])
+            rest = re.sub(r"(?<![^\s(){};,\[\]])" + re.escape(m[1]) + r"(?=\.)", "c", rest)
+            rest = re.sub(r"(?<![^\s(){};,\[\]λ])" + re.escape(m[1]) + r"(?=[\s)};,]|$)", "\x01" + place + "\x02", rest)
+            text = text[:m.start()] + rest
+        # a name for a place further out
+        while True:
+            m = re.search(r"let (" + WORD + r") = c(?:\.before)* in ?", text)
+            if not m:
+                break
+            rest = nearer(text[m.end():], m[1])
+            rest = re.sub(r"(?<![^\s(){};,\[\]])" + re.escape(m[1]) + r"(?=\.)", "c", rest)
+            text = text[:m.start()] + rest
+        # the place of c
+        m = re.search(r"\(c : tie\.([^\s)]+)|^(?:--[^\n]*\n)*(?:abbrev )?" + WORD + r" : tie\.([^\s)]+)", text)
+        at = self.asked.get(goal) if goal else (self.tied(m[1] or m[2]) if m else None)
+        if at in self.info:
+            # a place that a helper gives
+            inner = r"c(?:\.before)*"
+            for _ in range(4):
+                for h, (_, to) in self.results.items():
+                    to = self.tied(to)
+                    text = re.sub(r"\(" + re.escape(h) + r" (?:" + inner + r"|\(search\))\)(?=\.)", "c", text)
+                    text = re.sub(r"\(" + re.escape(h) + r" (?:" + inner + r"|\(search\))\)|(?<![^\s(])" + re.escape(h) + r" (?:c(?:\.before)*(?=[\s)])|\(search\))", lambda m: "\x01" + to + "\x02", text)
+                    # a name for it
+                    for n in re.finditer(r"let (" + WORD + r") = \x01" + re.escape(to) + r"\x02 in", text):
+                        text = nearer(text.replace(n[0], "", 1), n[1])
+                        text = re.sub(r"(?<![^\s(){};,\[\]])" + re.escape(n[1]) + r"(?=\.)", "c", text)
+                        text = re.sub(r"(?<![^\s(){};,\[\]])" + re.escape(n[1]) + r"(?=[\s)};,]|$)", "\x01" + to + "\x02", text)
+                text = re.sub(r"\(?\x01([^\x02]*)\x02(?:\.before)*\)?(?=\.[^b])", "c", text)
+            text = re.sub(r"\x01([^\x02]*)\x02", lambda m: ("c" if m[1] == at else f"(goal.at.{goal} c).{m[1]}" if goal else self.chain(at, m[1])), text)
+            for n in re.findall(r"goal\.at\." + WORD + r" c\)\.(" + WORD + ")", text):
+                self.cited.add(n)
+            # the place that a helper takes
+            if not goal:
+                for h, q in self.takes.items():
+                    q = self.tied(q)
+                    if q in self.info:
+                        text = re.sub(r"(?<![^\s(])" + re.escape(h) + r" c((?:\.before)*)(?=[\s)]|$)(?! *(?:=|:))", lambda m: h + " " + (("c") if q == at else self.chain(at, q)), text)
         places = {"c"} | set(re.findall(r"(?:let |\()(" + WORD + r") : tie\.(?!Need)", text))
         places |= set(re.findall(r"let (" + WORD + r") = c(?:\.before)* in", text))
         places |= set(m[0] for m in re.findall(r"let (" + WORD + r") = \(?(" + WORD + r") ", text) if m[1] in self.projections)
@@ -245,20 +329,9 @@ class Function:
         text = re.sub(r"^((?:abbrev )?" + WORD + r" : tie\.[^\n]*→ tie\.[^\n]*\n" + WORD + r" " + WORD + r" =)\s*\(?[^\n]*$", r"\1 search", text) if re.search(r"^(?:abbrev )?" + WORD + r" : [^\n]*→ tie\.", text) else text
         # a place has the invariants and measures already
         text = re.sub(r"\0((?: [^\s(){}]*(?:invariant|decreases|Inv|μ)[^\s(){}]*)*)", "", text)
+        text = re.sub(r"\.t(\d+)(?![\w-])", lambda m: "." + self.own["params"][int(m[1]) - 1] if 0 < int(m[1]) <= len(self.own.get("params", [])) else m[0], text)
         # what a test of !x says is said of x
         text = re.sub(r"not-(?:true|false) (?:_|\S+) (c\.if-not-[^\s()]+\.(?:true|false))", r"\1", text)
-        # a place that is found by its type: its fields are the goal's own
-        for m in re.finditer(r"\n?[ \t]*let (" + WORD + r") : ((?:After|Then|Else|In|At|Own)-[^\s)]+|Start) = search in", text):
-            var, place = m[1], m[2]
-            text = text.replace(m[0], "", 1)
-            # a nearer name that hides it
-            if re.search(r"λ[^.]*(?<![^\s(λ])" + re.escape(var) + r"(?=[\s.:])", text):
-                text = re.sub(r"λ " + re.escape(var) + r"\. ((?:[^()]|\([^()]*\))*)", lambda n: "λ " + var + "'. " + re.sub(r"(?<![^\s(){};,\[\]])" + re.escape(var) + r"(?![\w'-])", var + "'", n[1]), text)
-            if re.search(r"let " + re.escape(var) + r" = ", text):
-                print(f"  {var} is bound again: {m[0].strip()}")
-                continue
-            text = re.sub(r"(?<![^\s(){};,\[\]])" + re.escape(var) + r"(?=\.)", "c", text)
-            text = re.sub(r"(?<![^\s(){};,\[\]])" + re.escape(var) + r"(?=[\s)};,]|$)", "(goal.at.\1 c)." + place if answer else "(search)", text)
         # names for a contract, or for what a call ensures
         for m in re.finditer(r"let (" + WORD + r") = " + r"([^\s(){};,\[\]]+)\.(requires|ensures) in", text):
             var, path, kind = m[1], m[2].split("."), m[3]
@@ -325,8 +398,13 @@ def main_turn(names, crate):
                 answers[name] = (t[1], notes, code)
                 continue
             helpers.append((name, block))
-            if re.search(r"→ tie\.(?!Need)[^→]*$", kind):
+            g = re.match(r"\(" + WORD + r" : tie\.([^\s)]+)|tie\.([^\s)]+) →", kind)
+            if g:
+                fn.takes[name] = g[1] or g[2]
+            g = re.match(r"^tie\.([^\s)]+)[^→]*→ tie\.((?!Need)[^\s)]+)[^→]*$", kind)
+            if g:
                 fn.projections.add(name)
+                fn.results[name] = (g[1], g[2])
         # which answer is for which goal: by the places in the list that closes the proof
         given = {}
         if spec:
@@ -376,13 +454,13 @@ def main_turn(names, crate):
                 body = "\n".join(rest)
                 k = body.index("=") if "=" in body else 0
                 pre, post = body[: k + 1], body[k + 1:]
-                store[goal] = "\n".join(notes + [f"pub {goal} : goal.{goal}"]) + "\n" + pre + with_renames(fn.term(post, True))
+                store[goal] = "\n".join(notes + [f"pub {goal} : goal.{goal}"]) + "\n" + pre + with_renames(fn.term(post, True, goal))
             else:
                 m = re.match(r"^\(λ c(?: κs)?\.\s*(.*)\)$", a, re.S)
                 if m:
                     if m[1].strip() in ("search rules",):
                         continue
-                    store[goal] = f"pub {goal} : goal.{goal}\n{goal} c = " + with_renames(fn.term(m[1].strip(), True))
+                    store[goal] = f"pub {goal} : goal.{goal}\n{goal} c = " + with_renames(fn.term(m[1].strip(), True, goal))
                 else:
                     # an answer given by a helper of that type
                     store[goal] = f"pub {goal} : goal.{goal}\n{goal} c = {a} c.before"
@@ -406,15 +484,49 @@ def main_turn(names, crate):
         # a place that a helper takes is found by its type
         kept, takes = [], {}
         for name, block in helpers:
+            if name in fn.results:
+                continue
             kept.append([name, with_renames(fn.term("\n".join(block), False))])
         for name, text in kept:
             m = re.match(r"^(?:--[^\n]*\n)*(?:pub )?(?:abbrev )?" + WORD + r"\s*:\s*\((" + WORD + r") : ((?:After|Then|Else|In|At|Own)-[^\s)]+|Start)", text)
             if m:
                 takes[name] = m[2]
+        # a helper that another one calls further in, where its place cannot be named there: what it says, once more
+        final = {}
+        for pair in kept:
+            name, text = pair
+            for h in list(takes):
+                if h not in final or not fn.info.get(takes[h], (None, True))[1]:
+                    continue
+                if not re.search(r"(?<![^\s(])" + re.escape(h) + r" \(search\)", text):
+                    continue
+                if final[h] is None:
+                    print(f"  {h} is called in {name} and cannot be written there")
+                    continue
+                kind, body = final[h]
+                k = text.index("\n" + name + " ") if "\n" + name + " " in text else 0
+                delta, now = 0, takes.get(name)
+                while now in fn.info and now != takes[h]:
+                    now, delta = fn.info[now][0], delta + 1
+                if now == takes[h]:
+                    delta += fn.info[takes[name]][1] - fn.info[takes[h]][1]
+                new = re.sub(r"(?<![\w.])c((?:\.before)+)(?![\w.])", lambda m: "c" + m[1] + ".before" * delta, f"(let {h}' : {kind} = {body} in {h}')")
+                text = text[:k] + re.sub(r"(?<![^\s(])" + re.escape(h) + r" \(search\)", lambda m: new, text[k:])
+            pair[1] = text
+            m = re.match(r"^(?:--[^\n]*\n)*" + re.escape(name or "?") + r" : \(c : [^\s)]+\) → ([^\n]*)\n" + re.escape(name or "?") + r" c((?: [^\s=]+)*) =(.*)$", text, re.S)
+            if m and "\n  where" not in m[3] and "\n" + str(name) + " " not in m[3]:
+                body = " ".join(l.strip() for l in m[3].strip().split("\n"))
+                for h in list(takes):
+                    cite = r"(?<![^\s(])" + re.escape(h) + r" c(?=[\s)]|$)"
+                    if final.get(h) and takes[h] == takes.get(name) and re.search(cite, body):
+                        body = re.sub(cite, lambda m: f"(let {h}' : {final[h][0]} = {final[h][1]} in {h}')", body)
+                final[name] = (m[1], f"λ{m[2]}. {body}" if m[2] else body)
+            else:
+                final[name] = None
         placed = {new: at[1] for (old, new), at in zip(of_listed["needs"], of_listed["asked_at"])}
         local_goal = {a: g for g, a in given.items() if g != "args" and a in answers}
         for goal in list(store):
-            store[goal] = store[goal].replace("goal.at.\1", "goal.at." + goal)
+            store[goal] = store[goal].replace("goal.at.\x01", "goal.at." + goal)
             k = store[goal].index("=", store[goal].index("\n" + goal)) + 1
             top, store[goal] = store[goal][:k], store[goal][k:]
             for a, g in local_goal.items():

@@ -7,10 +7,10 @@ use Rattle.counts.proofs.counted_outside.Goals as goal
 use Rattle.counts.proofs.counted_outside.Invariants.{counted}
 
 pub returns-then-counts-gt0 : goal.returns-then-counts-gt0
-returns-then-counts-gt0 c = sym (zero_passes c.args.n (counted c.args.t2) (lt-ltb _ _ c.if-counts-gt0.true))
+returns-then-counts-gt0 c = sym (zero_passes c.args.n (counted c.args.counts) (lt-ltb _ _ c.if-counts-gt0.true))
 
 pub loop-j-init : goal.loop-j-init
-loop-j-init c = asked_zero c.args.n (counted c.args.t2) (search) (le-ltb _ _ c.if-counts-gt0.false)
+loop-j-init c = asked_zero c.args.n (counted c.args.counts) (search) (le-ltb _ _ c.if-counts-gt0.false)
 
 pub returns-then-counts-j-gt0 : goal.returns-then-counts-j-gt0
 returns-then-counts-j-gt0 c = sym (asked_passes c.loop-j.invariant (search) (lt-ltb _ _ c.if-counts-j-gt0.true))

@@ -11,10 +11,10 @@ use Rattle.counts.proofs.sum.Goals as goal
 
 pub loop-j-preserved : goal.loop-j-preserved
 loop-j-preserved c =
-    let w : Fits w16 (get_or c.args.t1 c.loop-j.j 0) = search rules in
-    let more = sum_step c.args.t1 c.loop-j.j (search rules) in
+    let w : Fits w16 (get_or c.args.counts c.loop-j.j 0) = search rules in
+    let more = sum_step c.args.counts c.loop-j.j (search rules) in
     (omega arith, omega (arith, w.fits), rw add-one (omega (arith, more, c.loop-j.invariant.2)))
 
 pub returns : goal.returns
 returns c =
-    omega (arith, c.loop-j.invariant.2, sum_end c.args.t1 c.loop-j.j (search rules))
+    omega (arith, c.loop-j.invariant.2, sum_end c.args.counts c.loop-j.j (search rules))
