@@ -10,14 +10,14 @@ fn output_room() -> [u8; 8192]
     [0u8; 8192]
 }
 
-fn main() {
+fn main(rt: HostRuntime) {
     let mut input = listing::input_room();
-    let read = stdio::read_input(&mut input);
+    let read = stdio::read_input(&rt, &mut input);
     if read.failed {
         return;
     }
     let count = read.count;
     let mut out = output_room();
     let size = listing::list(&input[..count], &mut out);
-    stdio::print(&out[..size]);
+    stdio::print(&rt, &out[..size]);
 }

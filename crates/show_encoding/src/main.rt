@@ -5,7 +5,7 @@
 ghost use Rattle.std.specs.Prelude.{◌≡◌, ◌≤◌, length};
 
 use families::Family;
-use libc::STDOUT_FILENO;
+use std::io;
 
 const K: usize = 3;
 
@@ -13,66 +13,66 @@ const LENGTH: usize = 4;
 
 const NODES: usize = 7;
 
-fn print_number(n: usize) {
-    io::write_all(STDOUT_FILENO, b" ");
-    io::print_decimal(STDOUT_FILENO, n as u64);
+fn print_number(rt: &impl Print, n: usize) -> io::Result<()> {
+    print!(rt; " {n}")
 }
 
 // The numbers of the data blocks that are in a column.
-fn print_blocks(column: usize) {
-    let mut i: usize = 0;
-    while i < K {
+fn print_blocks(rt: &impl Print, column: usize) -> io::Result<()> {
+    for i in 0..K {
         if (column >> i) % 2 == 1 {
-            print_number(i + 1);
+            print_number(rt, i + 1)?;
         }
-        i += 1;
     }
+    Ok(())
 }
 
-fn print_byte(byte: u8) {
-    io::write_all(STDOUT_FILENO, b" ");
-    io::print_hex(STDOUT_FILENO, byte as u64, 2);
+fn print_byte(rt: &impl Print, byte: u8) -> io::Result<()> {
+    print!(rt; " {byte:02x}")
 }
 
-fn print_bytes(bytes: &[u8]) {
-    let mut i: usize = 0;
-    while i < bytes.len() {
-        print_byte(bytes[i]);
-        i += 1;
+fn print_bytes(rt: &impl Print, bytes: &[u8]) -> io::Result<()> {
+    for byte in bytes {
+        print_byte(rt, *byte)?;
     }
+    Ok(())
 }
 
-fn print_node(nodes: &[u8], j: usize)
+fn print_node(rt: &impl Print, nodes: &[u8], j: usize) -> io::Result<()>
     requires { (length nodes.now ≡ 28) × (1 ≤ j) × (j ≤ 7) }
 {
-    io::write_all(STDOUT_FILENO, b"node");
-    print_number(j);
-    io::write_all(STDOUT_FILENO, b": blocks");
-    print_blocks(families::column(Family::Simplex, K, j));
-    io::write_all(STDOUT_FILENO, b", bytes");
+    print!(rt; "node")?;
+    print_number(rt, j)?;
+    print!(rt; ": blocks")?;
+    print_blocks(rt, families::column(Family::Simplex, K, j))?;
+    print!(rt; ", bytes")?;
     let from = (j - 1) * LENGTH;
-    print_bytes(&nodes[from..from + LENGTH]);
-    io::write_all(STDOUT_FILENO, b"\n");
+    print_bytes(rt, &nodes[from..from + LENGTH])?;
+    println!(rt)
 }
 
-fn print_nodes(nodes: &[u8])
+fn print_nodes(rt: &impl Print, nodes: &[u8]) -> io::Result<()>
     requires { length nodes.now ≡ 28 }
 {
-    let mut j: usize = 0;
-    while j < NODES {
-        j += 1;
-        print_node(nodes, j);
+    for j in 1..NODES + 1 {
+        print_node(rt, nodes, j)?;
     }
+    Ok(())
 }
 
-fn main() {
+fn print_refusal(rt: &impl Print, number: usize) -> io::Result<()> {
+    print!(rt; "refused")?;
+    print_number(rt, number)?;
+    println!(rt)
+}
+
+// A write that fails ends the printing, and nothing is said of it.
+fn main(rt: HostRuntime) {
     let mut nodes = [0u8; 28];
     let answer = encoding::encode(1, K, LENGTH, b"lacquer disc", &mut nodes);
     if answer != 0 {
-        io::write_all(STDOUT_FILENO, b"refused");
-        print_number(answer as usize);
-        io::write_all(STDOUT_FILENO, b"\n");
+        let _ = print_refusal(&rt, answer as usize);
         return;
     }
-    print_nodes(&nodes);
+    let _ = print_nodes(&rt, &nodes);
 }

@@ -1,0 +1,8 @@
+-- The node is one of the family's seven.
+use Rattle.std.proofs.Common.{arith}
+use Rattle.families.specs.Families.{node_count}
+use Rattle.show_encoding.proofs.print_node.Goals as goal
+
+pub column-requires-clause-node : goal.column-requires-clause-node
+unfolding node_count
+column-requires-clause-node g c = record { first = omega arith; last = omega arith }
