@@ -1,6 +1,6 @@
 #!/usr/bin/env bash
 # Installs the header, the static library and a file for pkg-config in PREFIX/include, PREFIX/lib and PREFIX/lib/pkgconfig.
-# Usage: bash install.sh PREFIX, after `rt staticlib mogtriz`. With DESTDIR in the environment the three go below that folder,
+# Usage: bash install.sh PREFIX, after `bash build.sh`. With DESTDIR in the environment the three go below that folder,
 # as for a package, and still name PREFIX.
 set -euo pipefail
 usage() {
@@ -31,7 +31,7 @@ esac
 cd "$(dirname "$0")"
 archive=target/staticlib/libmogtriz.a
 if [ ! -e "$archive" ]; then
-    echo "install.sh: \`rt staticlib mogtriz\` makes the missing $archive" >&2
+    echo "install.sh: \`bash build.sh\` makes the missing $archive" >&2
     exit 1
 fi
 

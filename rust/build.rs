@@ -1,4 +1,4 @@
-// Links the static library from the folder in MOGTRIZ_LIB, or from where `rt staticlib mogtriz` puts it.
+// Links the static library from the folder in MOGTRIZ_LIB, or from where `bash build.sh` puts it.
 use std::env;
 use std::ffi::OsString;
 use std::path;
@@ -10,7 +10,7 @@ fn main() {
     let archive = folder.join("libmogtriz.a");
     if !archive.exists() {
         println!(
-            "cargo:warning=`rt staticlib mogtriz` makes the missing {}",
+            "cargo:warning=`bash build.sh` makes the missing {}",
             archive.display()
         );
     }

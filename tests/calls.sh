@@ -1,7 +1,7 @@
 #!/usr/bin/env bash
 # The library and its header from C and from C++: what the library exports is what the header declares and tests/calls.c calls; what
 # the header adds is called too, and right; each call takes empty buffers, warns where its answer is ignored, and needs
-# no more stack than is said. Needs `rt staticlib mogtriz`.
+# no more stack than is said. Needs `bash build.sh`.
 set -euo pipefail
 cd "$(dirname "$0")/.."
 archive=target/staticlib/libmogtriz.a

@@ -29,7 +29,7 @@ lacks() {
 # ---- what there is
 
 declare -A is_crate is_word is_in_header is_declared
-while IFS=: read -r crate _; do is_crate[$crate]=1; done < <(grep -v '^#' crates.txt)
+while IFS=: read -r crate _; do is_crate[${crate%% *}]=1; done < <(grep -v '^#' crates.txt)
 
 # the names in some text
 names() { grep -oE "[A-Za-z0-9_][A-Za-z0-9_'-]*" | sort -u; }

@@ -1,6 +1,6 @@
 #!/usr/bin/env bash
 # What install.sh puts in place serves a program that knows of it by pkg-config alone, in C and in C++; with DESTDIR it is the same,
-# below that folder. Needs `rt staticlib mogtriz`.
+# below that folder. Needs `bash build.sh`.
 set -euo pipefail
 cd "$(dirname "$0")/.."
 room=$PWD/target/installed

@@ -1,7 +1,7 @@
 #!/usr/bin/env bash
 # The two programs on boxes, on other bytes, and where reading or writing fails: standard output compared byte for byte with what
 # document 01 says, standard error with the README's two texts. tests/programs/cases says which files are which case.
-# Usage: bash tests/programs.sh [FOLDER OF THE PROGRAMS]. `rt check lister refiller` makes them in target/bin.
+# Usage: bash tests/programs.sh [FOLDER OF THE PROGRAMS]. `bash build.sh` makes them in target/bin.
 set -euo pipefail
 root=$(cd "$(dirname "$0")/.." && pwd)
 programs=$(cd "${1:-$root/target/bin}" && pwd)

@@ -1,7 +1,7 @@
 #!/usr/bin/env bash
 # The relation test in the archive's own code: once the family is chosen, by two conditional jumps, it has none, so that it branches on no
 # node. What C calls, mogtriz_related, hands the three numbers to it after their range checks, and mogtriz_step calls it too. Needs
-# `rt staticlib mogtriz`.
+# `bash build.sh`.
 set -euo pipefail
 cd "$(dirname "$0")/.."
 code=target/relation.code
