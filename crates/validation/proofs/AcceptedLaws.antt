@@ -177,4 +177,4 @@ module _ (f : Family) (k : ℕ) (marks : List Bool) where
       was = good_is f k marks [] step (good_first f k marks [] step later e).first
 
       now : is_live made step.node ≡ true
-      now = live_listed_lem marks {list = repaired_nodes (step ∷ later)} {j = step.node} (omega (arith, was.node.last, few f k range, size)) (Memᴰ.head refl)
+      now = live_listed_lem {j = step.node} {list = repaired_nodes (step ∷ later)} marks (omega (arith, was.node.last, few f k range, size)) (Memᴰ.head refl)
