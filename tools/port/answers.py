@@ -48,7 +48,8 @@ def clauses(root):
                     owner = ""
                 m = re.match(r'^\s*(?:pub )?(?:extern "C" )?fn (\w+)', line)
                 if m:
-                    now = at + "::" + (owner + "::" if owner else "") + m[1]
+                    # a method is named by its type's module, which is the root here
+                    now = (crate + "::" + owner if owner else at) + "::" + m[1]
                     found[now] = {"requires": [], "ensures": [], "params": [], "was": {"requires": 0, "ensures": 0}}
                     head, more = line[m.end():], True
                     inside = True
@@ -82,7 +83,7 @@ def were(root, found):
                 owner = ""
             m = re.match(r'^\s*(?:pub )?(?:extern "C" )?fn (\w+)', line)
             if m:
-                now = at + "::" + (owner + "::" if owner else "") + m[1]
+                now = (crate + "::" + owner if owner else at) + "::" + m[1]
             m = re.match(r"^\s*(requires|ensures)\b", line)
             if m and now in found:
                 found[now]["was"][m[1]] += 1

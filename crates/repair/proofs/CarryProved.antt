@@ -132,7 +132,7 @@ module _ (s : Session) (arrays : Arrays s) (plan nodes : List ℕ) (h : (carried
   live_from j (inl v) = rw session_is (live_keeps s.live (repaired_nodes steps) j v)
   live_from j (inr m) =
       let n = (make_missing (family_of s.family) s.k s.live steps makes.all j m).0 in
-      rw session_is (live_listed_lem s.live {list = repaired_nodes steps} {j = j} (omega (arith, n.last, few (family_of s.family) s.k range, arrays.marks)) m)
+      rw session_is (live_listed_lem {j = j} {list = repaired_nodes steps} s.live (omega (arith, n.last, few (family_of s.family) s.k range, arrays.marks)) m)
 
   again : (steps ≡ [] → ⊥) → plan_checked next plan ≡ record { refusal = 0; bad = 1; session = next }
   again some = go steps refl

@@ -28,4 +28,4 @@ returns c =
     let g = c.args in
     let e = c.family_of-family.ensures in
     let m = c.make_plan in
-    let is = m.ensures.0 ∙ ap (λ (f' : Family). planned_of f' g.self.k g.self.live) e in record { value = (is, made_few g.self m.result is (known _ c.requires.0).range.blocks (marks (goal.at.returns c).Start)); steps_after = m.ensures.1 ∙ ap (λ (f' : Family). step_bytes (plan_of f' g.self.k g.self.live) ++ drop (4 * length (plan_of f' g.self.k g.self.live)) g.steps.now) e }
+    let is = m.ensures.value ∙ ap (λ (f' : Family). planned_of f' g.self.k g.self.live) e in record { value = (is, made_few g.self m.result is (known _ c.requires.0).range.blocks (marks (goal.at.returns c).Start)); steps_after = m.ensures.out_after ∙ ap (λ (f' : Family). step_bytes (plan_of f' g.self.k g.self.live) ++ drop (4 * length (plan_of f' g.self.k g.self.live)) g.steps.now) e }

@@ -38,13 +38,13 @@ pub live_outside-requires : goal.live_outside-requires
 live_outside-requires c = few_nodes (goal.at.live_outside-requires c).After-node_count_of-n
 
 pub returns-then-live_outside : goal.returns-then-live_outside
-returns-then-live_outside c =  sym (unsound_marks _ (passed (goal.at.returns-then-live_outside c).Else-parameter_refusal-ne0) (sym (outside_is (goal.at.returns-then-live_outside c).After-live_outside) ∙ c.if-live_outside.true))
+returns-then-live_outside c = sym (unsound_marks _ (passed (goal.at.returns-then-live_outside c).Else-parameter_refusal-ne0) (sym (outside_is (goal.at.returns-then-live_outside c).After-live_outside) ∙ c.if-live_outside.true))
 
 pub count_live-requires : goal.count_live-requires
 count_live-requires c = few_nodes (goal.at.count_live-requires c).After-node_count_of-n
 
 pub is_miscounted-requires : goal.is_miscounted-requires
-is_miscounted-requires c =  (c.node_count_of-n.ensures, few_nodes (goal.at.is_miscounted-requires c).After-node_count_of-n, c.count_live.ensures)
+is_miscounted-requires c = (c.node_count_of-n.ensures, few_nodes (goal.at.is_miscounted-requires c).After-node_count_of-n, c.count_live.ensures)
 
 pub returns : goal.returns
-returns c =  c.is_miscounted.ensures ∙ sym (unsound_counts _ (passed (goal.at.returns c).Else-parameter_refusal-ne0) (sym (outside_is (goal.at.returns c).After-live_outside) ∙ c.if-live_outside.false))
+returns c = c.is_miscounted.ensures ∙ sym (unsound_counts _ (passed (goal.at.returns c).Else-parameter_refusal-ne0) (sym (outside_is (goal.at.returns c).After-live_outside) ∙ c.if-live_outside.false))

@@ -34,7 +34,7 @@ returns-then-bad_list-ne0 c =
     e ∙ sym (list_numbers _ _ _ (passed (goal.at.returns-then-bad_list-ne0 c).Else-bad-ne0) (rw e at c.if-bad_list-ne0.true))
 
 pub returns-then-some_missing : goal.returns-then-some_missing
-returns-then-some_missing c =  sym (list_12 _ _ _ (passed (goal.at.returns-then-some_missing c).Else-bad-ne0) (numbers (goal.at.returns-then-some_missing c).Else-bad_list-ne0) (sym c.some_missing.ensures ∙ c.if-some_missing.true))
+returns-then-some_missing c = sym (list_12 _ _ _ (passed (goal.at.returns-then-some_missing c).Else-bad-ne0) (numbers (goal.at.returns-then-some_missing c).Else-bad_list-ne0) (sym c.some_missing.ensures ∙ c.if-some_missing.true))
 
 pub returns : goal.returns
-returns c =  sym (list_0 _ _ _ (passed (goal.at.returns c).Else-bad-ne0) (numbers (goal.at.returns c).Else-bad_list-ne0) (sym c.some_missing.ensures ∙ c.if-some_missing.false))
+returns c = sym (list_0 _ _ _ (passed (goal.at.returns c).Else-bad-ne0) (numbers (goal.at.returns c).Else-bad_list-ne0) (sym c.some_missing.ensures ∙ c.if-some_missing.false))

@@ -30,8 +30,8 @@ count_is : (c : After-count_live-count) → c.count_live-count.result ≡ length
 count_is c = rw c.node_count_of-n.ensures at c.count_live-count.ensures
 
 -- the live nodes, without the zeros after them
-first_live : (c : After-list_live-all) → let l = c.before in take l.count_live-count.result c.list_live-all.result ≡ live_nodes_of (start (passed (numbered l))).args.self
-first_live c = let l = c.before in up_to _ _ _ _ (rw (numbered l).node_count_of-n.ensures at c.list_live-all.ensures) (count_is l)
+first_live : (c : After-list_live-all) → take c.count_live-count.result c.list_live-all.result ≡ live_nodes_of c.args.self
+first_live c = up_to _ _ _ _ (rw c.node_count_of-n.ensures at c.list_live-all.ensures) (rw c.node_count_of-n.ensures at c.count_live-count.ensures)
 
 pub node_count_of-n-requires : goal.node_count_of-n-requires
 node_count_of-n-requires c = (known _ (sound (goal.at.node_count_of-n-requires c).Else-is_unsound)).range.blocks
@@ -44,26 +44,22 @@ list_live-all-requires c = few_nodes (goal.at.list_live-all-requires c).After-no
 
 pub returns-then-is_unsound : goal.returns-then-is_unsound
 returns-then-is_unsound c =
-    
     let g = c.args in
     let r = live_13 g.self g.out.now (sym c.is_unsound.ensures ∙ c.if-is_unsound.true) in
     record { value = c.not_written.ensures ∙ r.answer_is; out_after = r.buffer_is }
 
 pub returns-then-out-count : goal.returns-then-out-count
 returns-then-out-count c =
-    
-    
     let g = c.args in
-    let r = live_6 g.self g.out.now (sound (goal.at.returns-then-out-count c).Else-is_unsound) (omega (arith, count_is (goal.at.returns-then-out-count c).Start, c.if-out-count.true)) in
+    let r = live_6 g.self g.out.now (sound (goal.at.returns-then-out-count c).Else-is_unsound) (omega (arith, count_is (goal.at.returns-then-out-count c).After-count_live-count, c.if-out-count.true)) in
     record { value = c.not_written-then-out-count.ensures ∙ r.answer_is; out_after = r.buffer_is }
 
 pub returns : goal.returns
 returns c =
-    
-    
-    let n = c.before in
-    let e = passed (numbered n) in
-    let g = (start e).args in
-    let m = count_is n in
-    let r = live_listed_lem g.self g.out-1.now (sound e) (omega (arith, m, c.if-out-count.false)) in
-    record { value = rw (← m) at r.answer_is; out_after = rw (c.copy_block.ensures, sub-zero n.count_live-count.result, first_live (goal.at.returns c).Start) (rw (← m) at r.buffer_is) }
+    let g = c.args in
+    let m = count_is (goal.at.returns c).After-count_live-count in
+    let r = live_listed_lem g.self g.out.now (sound (goal.at.returns c).Else-is_unsound) (omega (arith, m, c.if-out-count.false)) in
+    record {
+      value = rw (← m) at r.answer_is;
+      out_after = rw (c.copy_block.ensures, sub-zero c.count_live-count.result, first_live (goal.at.returns c).After-list_live-all) (rw (← m) at r.buffer_is);
+    }

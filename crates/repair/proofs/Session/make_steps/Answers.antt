@@ -21,7 +21,7 @@ few_steps c =
     (w.0, w.1, bytes_few s c.requires.self_value.0 (marks c) c.args.steps.now c.args.count c.requires.can_make_all)
 
 pub overflow_add-self : goal.overflow_add-self
-overflow_add-self c =  record { fits = omega (arith, few_steps (goal.at.overflow_add-self c).Start) }
+overflow_add-self c = record { fits = omega (arith, few_steps (goal.at.overflow_add-self c).Start) }
 
 pub carry_out-requires : goal.carry_out-requires
 carry_out-requires c =

@@ -51,7 +51,6 @@ bodies-requires c = has_names _ (passed (goal.at.bodies-requires c).Else-bad-ne0
 
 pub returns-then-bad-ne0 : goal.returns-then-bad-ne0
 returns-then-bad-ne0 c =
-    
     let g = c.args in
     let r = read_by_box g.bytes.now g.nodes.now _ c.box_refusal-bad.ensures c.if-bad-ne0.true in
     record { value = c.refused.ensures ∙ r.answer_is; nodes_after = r.buffer_is }
@@ -61,14 +60,12 @@ node_count-n-requires c = record { in_bounds = (has_names _ (passed (goal.at.nod
 
 pub returns-then-nodes-n : goal.returns-then-nodes-n
 returns-then-nodes-n c =
-    
     let g = c.args in
-    let r = read_by_nodes g.bytes.now g.nodes.now (passed (goal.at.returns-then-nodes-n c).Else-bad-ne0) (λ e. c.if-nodes-n.true (e ∙ sym (size (goal.at.returns-then-nodes-n c).Start))) in
+    let r = read_by_nodes g.bytes.now g.nodes.now (passed (goal.at.returns-then-nodes-n c).Else-bad-ne0) (λ e. c.if-nodes-n.true (e ∙ sym (size (goal.at.returns-then-nodes-n c).After-node_count-n))) in
     record { value = c.refused-then-nodes-n.ensures ∙ r.answer_is; nodes_after = r.buffer_is }
 
 pub read_bodies-requires : goal.read_bodies-requires
 read_bodies-requires c =
-    
     let g = c.args in
     let b = box (goal.at.read_bodies-requires c).Else-bad-ne0 in
     let l = list_in (block_length_in g.bytes.now) (node_count_in g.bytes.now) g.nodes.now (names_in g.bytes.now) (long (goal.at.read_bodies-requires c).Else-nodes-n) b.nodes in
@@ -76,8 +73,6 @@ read_bodies-requires c =
 
 pub returns : goal.returns
 returns c =
-    
-    
     let g = c.args in
     let r = read_done g.bytes.now g.nodes.now (passed (goal.at.returns c).Else-bad-ne0) (long (goal.at.returns c).Else-nodes-n) in
     record { value = rw c.box_session-session.ensures r.answer_is; nodes_after = c.read_bodies.ensures ∙ same_bodies g.nodes.now c.block_length-len.ensures c.names.ensures c.bodies.ensures ∙ r.buffer_is }

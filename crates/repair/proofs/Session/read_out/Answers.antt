@@ -32,32 +32,37 @@ missing_block-block-requires c = rw c.family_of-family.ensures (is_known (goal.a
 
 pub returns-then-bad-ne0 : goal.returns-then-bad-ne0
 returns-then-bad-ne0 c =
-    
     let g = c.args in
     let r = by_nodes g.self g.nodes.now g.object.now _ c.nodes_refusal-bad.ensures c.if-bad-ne0.true in
     record { value = c.out_answer.ensures ∙ r.answer_is; object_after = r.buffer_is }
 
 pub returns-then-object-self : goal.returns-then-object-self
 returns-then-object-self c =
-    
     let g = c.args in
-    let r = by_object g.self g.nodes.now g.object.now (passed (goal.at.returns-then-object-self c).Start) c.if-object-self.true in
+    let r = by_object g.self g.nodes.now g.object.now (passed (goal.at.returns-then-object-self c).Else-bad-ne0) c.if-object-self.true in
     record { value = c.out_answer-then-object-self.ensures ∙ r.answer_is; object_after = r.buffer_is }
 
 pub returns-then-block-ne0 : goal.returns-then-block-ne0
 returns-then-block-ne0 c =
-    
     let g = c.args in
-    let r = by_block g.self g.nodes.now g.object.now (passed (goal.at.returns-then-block-ne0 c).Else-bad-ne0) c.if-object-self.false _ (block_is (goal.at.returns-then-block-ne0 c).Start) c.if-block-ne0.true in
+    let r = by_block g.self g.nodes.now g.object.now (passed (goal.at.returns-then-block-ne0 c).Else-bad-ne0) c.if-object-self.false _ (block_is (goal.at.returns-then-block-ne0 c).After-missing_block-block) c.if-block-ne0.true in
     record { value = r.answer_is; object_after = r.buffer_is }
 
 pub copy_data_blocks-requires : goal.copy_data_blocks-requires
-copy_data_blocks-requires c = let m = c.before in rw (named m).family_of-family.ensures (record { kin_range = (is_known (args_of m)).range.blocks; nodes_len = ((sized _ _ (passed (args_of m))).size, (long (named m)).if-object-self.false) })
+copy_data_blocks-requires c =
+    let e = (goal.at.copy_data_blocks-requires c).Else-bad-ne0 in
+    record {
+      kin_range = rw c.family_of-family.ensures (is_known e).range.blocks;
+      nodes_len = rw c.family_of-family.ensures ((sized _ _ (passed e)).size, c.if-object-self.false);
+    }
 
 pub returns : goal.returns
 returns c =
-    
-    let m = c.before in
-    let g = (start (args_of m)).args in
-    let r = read g.self g.nodes.now g.object-1.now (accepted_out g.self g.nodes.now g.object-1.now (passed (args_of m)) (long (named m)).if-object-self.false (sym (block_is m) ∙ c.if-block-ne0.false)) in
-    record { value = c.out_answer-2.ensures ∙ r.answer_is; object_after = c.copy_data_blocks.ensures ∙ ap (λ (f : Family). data_blocks f g.self.k g.self.len g.nodes.now g.self.k) (named m).family_of-family.ensures ∙ r.buffer_is }
+    let g = c.args in
+    let e = (goal.at.returns c).Else-bad-ne0 in
+    let m = (goal.at.returns c).After-missing_block-block in
+    let r = read g.self g.nodes.now g.object.now (accepted_out g.self g.nodes.now g.object.now (passed e) c.if-object-self.false (sym (block_is m) ∙ c.if-block-ne0.false)) in
+    record {
+      value = c.out_answer-2.ensures ∙ r.answer_is;
+      object_after = c.copy_data_blocks.ensures ∙ ap (λ (f : Family). data_blocks f g.self.k g.self.len g.nodes.now g.self.k) c.family_of-family.ensures ∙ r.buffer_is;
+    }

@@ -38,31 +38,29 @@ pub draw_up-made-requires : goal.draw_up-made-requires
 draw_up-made-requires c = ((buffer (goal.at.draw_up-made-requires c).Else-bad-ne0).sound, search rules)
 
 pub overflow_add-self : goal.overflow_add-self
-overflow_add-self c =  record { fits = omega (arith, few_steps (goal.at.overflow_add-self c).After-draw_up-made) }
+overflow_add-self c = record { fits = omega (arith, few_steps (goal.at.overflow_add-self c).After-draw_up-made) }
 
 pub returns-then-bad-ne0 : goal.returns-then-bad-ne0
 returns-then-bad-ne0 c =
-    
     let g = c.args in
     let r = run_refused g.self g.nodes.now c.nodes_refusal-bad.result c.nodes_refusal-bad.ensures c.if-bad-ne0.true in
     record { value = c.no_repairs.ensures ∙ r.answer_is; nodes_after = r.buffer_is }
 
 pub carry_out-requires : goal.carry_out-requires
 carry_out-requires c =
-    
     let d = c.draw_up-made in
     let g = c.args in
     let b = buffer (goal.at.carry_out-requires c).Else-bad-ne0 in
-    let room : length c.plan_room-steps.result ≡ 1020 = search rules in record { count_in_bounds = omega (arith, d.ensures.0.1, d.kept.1.0, room); all_in = made_in g.self d.result d.ensures.0.0 _ _ d.ensures.1 (known g.self b.sound).range.blocks (marks (goal.at.carry_out-requires c).After-nodes_refusal-bad) g.nodes.now b.size }
+    let room : length c.plan_room-steps.result ≡ 1020 = search rules in record { count_in_bounds = omega (arith, d.ensures.value.1, d.auto.steps, room); all_in = made_in g.self d.result d.ensures.value.0 _ _ d.ensures.steps_after (known g.self b.sound).range.blocks (marks (goal.at.carry_out-requires c).After-nodes_refusal-bad) g.nodes.now b.size }
 
 pub count_reads-requires : goal.count_reads-requires
 count_reads-requires c =
     let d = c.draw_up-made in
     let room : length c.plan_room-steps.result ≡ 1020 = search rules in
-    record { count_in_bounds = omega (arith, d.ensures.0.1, d.kept.1.0, room); count_bound = omega (arith, few_steps (goal.at.count_reads-requires c).After-draw_up-made) }
+    record { count_in_bounds = omega (arith, d.ensures.value.1, d.auto.steps, room); count_bound = omega (arith, few_steps (goal.at.count_reads-requires c).After-draw_up-made) }
 
 pub returns : goal.returns
 returns c =
     let d = c.draw_up-made in
     let g = c.args in
-    let r = run_made g.self g.nodes.now (passed (goal.at.returns c).Else-bad-ne0) in record { value = c.counted.ensures ∙ made_ran g.self d.result d.ensures.0.0 _ _ d.ensures.1 _ c.count_reads.ensures ∙ r.answer_is; nodes_after = c.carry_out.ensures ∙ ap (λ (steps : List Step). nodes_made g.self.len g.nodes.now steps) (made_back g.self d.result d.ensures.0.0 _ _ d.ensures.1) ∙ r.buffer_is }
+    let r = run_made g.self g.nodes.now (passed (goal.at.returns c).Else-bad-ne0) in record { value = c.counted.ensures ∙ made_ran g.self d.result d.ensures.value.0 _ _ d.ensures.steps_after _ c.count_reads.ensures ∙ r.answer_is; nodes_after = c.carry_out.ensures ∙ ap (λ (steps : List Step). nodes_made g.self.len g.nodes.now steps) (made_back g.self d.result d.ensures.value.0 _ _ d.ensures.steps_after) ∙ r.buffer_is }

@@ -46,29 +46,23 @@ overflow_add-needed-2 c = omega (arith, small (goal.at.overflow_add-needed-2 c).
 
 pub returns-then-bad-ne0 : goal.returns-then-bad-ne0
 returns-then-bad-ne0 c =
-    
     let g = c.args in
     let r = write_by_list g.self g.nodes.now g.list.now g.out.now _ c.list_refusal-bad.ensures c.if-bad-ne0.true in
     record { value = c.not_written.ensures ∙ r.answer_is; out_after = r.buffer_is }
 
 pub returns-then-out-needed : goal.returns-then-out-needed
 returns-then-out-needed c =
-    
     let g = c.args in
-    let r = write_6 g.self g.nodes.now g.list.now g.out.now (list_is (goal.at.returns-then-out-needed c).Start) c.if-out-needed.true in
+    let r = write_6 g.self g.nodes.now g.list.now g.out.now (list_is (goal.at.returns-then-out-needed c).Else-bad-ne0) c.if-out-needed.true in
     record { value = c.not_written-then-out-needed.ensures ∙ r.answer_is; out_after = r.buffer_is }
 
 pub write_box-requires : goal.write_box-requires
 write_box-requires c =
-    
     let g = c.args in
     let range = (session (goal.at.write_box-requires c).Else-bad-ne0).range in record { family_bound = (omega (arith, range.last), omega (arith, short _ _ range.blocks), omega (arith, range.most), omega (arith, (small (goal.at.write_box-requires c).Else-bad-ne0).0)); list_in = list_in g.self.len (node_count_of g.self) g.nodes.now g.list.now (sizes (goal.at.write_box-requires c).Else-bad-ne0).size (passed (goal.at.write_box-requires c).Else-bad-ne0).inside; len_in_bounds = c.if-out-needed.false }
 
 pub returns : goal.returns
 returns c =
-    
-    
-    
     let g = c.args in
     let r = write_made g.self g.nodes.now g.list.now g.out.now (list_is (goal.at.returns c).Else-bad-ne0) c.if-out-needed.false in
     record { value = r.answer_is; out_after = c.write_box.ensures ∙ r.buffer_is }
