@@ -22,11 +22,11 @@ is() {
 conditional='j[^m]'
 test=families::related
 is "conditional jumps in $test" "$(code_of $test | count "$conditional")" 2
-# Both stand at its head, where only the family is compared, with 1 and 2: the first argument, whose register is rdi. A compiler that
-# takes another register for its copy, ecx, would do no harm and is to be let in here.
+# Both stand at its head, where only the family is compared, with 1 and 2: the first argument, whose register is rdi, or a copy of it in
+# whatever register the compiler takes for that.
 is "conditional jumps in its first six instructions" "$(code_of $test | head -n 6 | count "$conditional")" 2
-is "comparisons of the family there" "$(code_of $test | head -n 6 | count 'cmp +(dil|ecx),0x[12]$')" 2
-is "copies of the family there" "$(code_of $test | head -n 6 | count 'movzx +ecx,dil$')" 1
+is "comparisons of the family there" "$(code_of $test | head -n 6 | count 'cmp +(dil|e[abcd]x),0x[12]$')" 2
+is "copies of the family there" "$(code_of $test | head -n 6 | count 'movzx +e[abcd]x,dil$')" 1
 is "calls and indirect jumps in $test" "$(code_of $test | count '(call|jmp +[^0-9a-f])')" 0
 
 # after mogtriz_related's last conditional jump comes the call, and then its end
