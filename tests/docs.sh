@@ -15,7 +15,6 @@ missing=0
 # words in backticks that are no names of this repository, each for the reason beside it
 declare -A known=(
     [must-fail]="a command of the kit"
-    [read_full]="a function of the kit's io"
     [memset]="a function of the C library, which the compiler puts in"
     [condition]="stands for any condition of a check"
 )
