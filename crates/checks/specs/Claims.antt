@@ -1,4 +1,4 @@
--- What is proved of every order of checks, and of 1 to 3; `checks-claim` and `range-claim` of proofs/Laws.antt are the proofs.
+-- What is proved of every order of checks, and of 1 to 3; `checks_claim` and `range_claim` of proofs/Laws.antt are the proofs.
 use Rattle.std.specs.Prelude.{◌≡◌, true, false, List, [], ◌∷◌, ◌++◌, ◌↔◌, ℕ, suc, ◌≤◌}
 use Rattle.families.specs.Families.{family_of, KInRange}
 use Rattle.checks.specs.Checks.{Check, ◌gives◌, first_met}

@@ -13,7 +13,7 @@ use Rattle.planning.specs.Plan.{Step, Reading, RepairedIn, marks_after, rounds_f
 abbrev pub often : Reading
 often free step = free
 
--- the waves from marks; there are fewer than n of them (`few-waves`)
+-- the waves from marks; there are fewer than n of them (`few_waves`)
 unfoldable pub waves_of : Family → ℕ → List Bool → List Step
 waves_of f k marks = rounds_from often f k 1 marks (node_count f k)
 

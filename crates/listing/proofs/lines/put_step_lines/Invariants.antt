@@ -1,4 +1,5 @@
--- `listing::lines::put_step_lines` meets its contract. The loop's invariant: the lines of the steps passed are put.
+-- `listing::lines::put_step_lines` meets its contract. The loop's invariant: the lines of the steps passed are put. The measure is
+-- how many steps are left.
 use mathlib.Core.List.{flat_map}
 use Prim.Native.Nat.{◌-◌}
 use Rattle.planning.specs.Made.{steps_in}

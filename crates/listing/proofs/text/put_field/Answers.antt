@@ -1,4 +1,4 @@
--- The number follows the word.
+-- `listing::text::put_field` meets its contract: the number follows the word.
 use Rattle.std.proofs.Common.{arith, length-append}
 use Rattle.listing.specs.Text.{field}
 use Rattle.listing.proofs.PutLaws.{then}

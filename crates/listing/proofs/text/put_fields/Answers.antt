@@ -1,4 +1,4 @@
--- The second field follows the first.
+-- `listing::text::put_fields` meets its contract: the second field follows the first.
 use Rattle.listing.proofs.PutLaws.{then}
 use Rattle.listing.proofs.text.put_fields.Goals as goal
 

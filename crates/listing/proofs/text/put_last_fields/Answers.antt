@@ -1,4 +1,4 @@
--- The last field follows the first.
+-- `listing::text::put_last_fields` meets its contract: the last field follows the first.
 use Rattle.listing.proofs.PutLaws.{then}
 use Rattle.listing.proofs.text.put_last_fields.Goals as goal
 

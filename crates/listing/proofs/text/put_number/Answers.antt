@@ -1,4 +1,4 @@
--- The digits that `io` gives are those of the definition.
+-- `listing::text::put_number` meets its contract: the digits that `io` gives are those of the definition.
 use Rattle.std.proofs.Common.{rules, ◌≡◌, ◌∙◌, take}
 use Rattle.listing.specs.Text.{decimal}
 use Rattle.listing.proofs.TextLaws.{decimal_is}
