@@ -30,7 +30,7 @@ pub record Nears (goal before after : List ℕ) (count size at stride : ℕ) : T
 
 -- ---- moves
 
--- `count` bytes, `from_stride` apart, come to places `to_stride` apart: whatever goal has them there, the buffer nears it
+-- `count` bytes, `from-stride` apart, come to places `to-stride` apart: whatever goal has them there, the buffer nears it
 pub record Strided (source : List ℕ) (from from-stride : ℕ) (before after : List ℕ) (to to-stride count : ℕ) : Type 0 where
   pub nears : (goal : List ℕ) → ((i : ℕ) → i < count → get_or source (from + i * from-stride) 0 ≡ get_or goal (to + i * to-stride) 0) → Nears goal before after count 1 to to-stride
 
