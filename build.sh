@@ -1,15 +1,13 @@
 #!/usr/bin/env bash
 # Proves and builds the library that C and Rust programs link, target/staticlib/libmogtriz.a, and the two programs, target/bin/lister and
-# target/bin/refiller. With --made it takes what a run of `rt ci` in this folder has just made, and proves nothing.
+# target/bin/refiller.
 set -euo pipefail
 cd "$(dirname "$0")"
 mkdir -p target/staticlib target/bin
-if [ "${1:-}" != --made ]; then
-    (cd crates/mogtriz && rt lib)
-    for program in lister refiller; do
-        # rt builds a program to run it
-        (cd "crates/$program" && rt run <stdin >/dev/null)
-    done
-fi
+(cd crates/mogtriz && rt lib)
+for program in lister refiller; do
+    # rt builds a program to run it
+    (cd "crates/$program" && rt run <stdin >/dev/null)
+done
 cp crates/mogtriz/out/libmogtriz.a target/staticlib/
 cp crates/lister/out/lister crates/refiller/out/refiller target/bin/
