@@ -20,7 +20,7 @@ is() {
 }
 
 conditional='j[^m]'
-test=families::related
+test=families::Code::related
 is "conditional jumps in $test" "$(code_of $test | count "$conditional")" 2
 # Both stand at its head, where only the family is compared, with 1 and 2: the first argument, whose register is rdi, or a copy of it in
 # whatever register the compiler takes for that.

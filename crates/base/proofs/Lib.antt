@@ -8,3 +8,4 @@ pub mod Sums
 pub mod ListLaws
 pub mod EachLaws
 pub mod Reduce
+pub mod NumberLaws

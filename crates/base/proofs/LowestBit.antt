@@ -1,7 +1,7 @@
 -- The lowest set bit of a number, and what is left without it.
 -- Assumes nothing.
 use mathlib.Core.Path.{◌≡◌, sym, ap, ap₂, ◌∙◌, subst}
-use mathlib.Core.Logic.{◌⊎◌, ⊎_elim}
+use mathlib.Core.Logic.{⊎_elim}
 use Prim.Native.Nat.{ℕ, zero, suc, ◌+◌, ◌-◌, ◌*◌, ◌/◌, ◌%◌, ◌^◌, ◌<◌}
 use native.Mathlib.Nat.{pow-suc, mul_assoc, mul_comm, mul-one, one-mul, add-mul, mul-div_cancel, mul-mod_left, mod_self, mul-add-mod_self_right, zero-lt-suc, le_of_suc-le-suc, not-suc-le-zero, eq-zero-or-pos}
 use native.Mathlib.Decide.{dec_lt}

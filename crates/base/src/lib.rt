@@ -1,8 +1,9 @@
-// Powers of two, lowest bits and lengths in bits, bytes as numbers. The laws of numbers, bits and lists that every crate may cite stand in proofs/.
+// Powers of two, lowest bits and lengths in bits, numbers in a range. The laws of numbers, bits and lists that every crate may cite stand in proofs/.
 #![tactic(auto)]
 
 ghost use Rattle.std.specs.Prelude.{◌≡◌, ◌-◌, ◌^◌, ◌<◌};
 ghost use Rattle.std.specs.Int.Count.{count_trailing_zeros, count_leading_zeros};
+ghost use Rattle.base.specs.Ranges.{outside};
 
 // 2 to the power i.
 pub fn power(i: usize) -> usize
@@ -12,7 +13,8 @@ pub fn power(i: usize) -> usize
     1usize << i
 }
 
-// The place of the lowest set bit, from 0; 64 for x = 0.
+// The place of the lowest set bit, from 0; 64 for x = 0. `as`: it fits by the type of the bits counted, which is `u32`; `try_from` would add a
+// case with no answer.
 pub fn lowest_bit(x: usize) -> usize
     ensures { result ≡ count_trailing_zeros 64 x }
 {
@@ -27,16 +29,16 @@ pub fn without_lowest(x: usize) -> usize
     x & (x - 1)
 }
 
-// How many bits x has, up to its highest set bit; 0 for x = 0.
+// How many bits x has, up to its highest set bit; 0 for x = 0. `as` as in `lowest_bit`.
 pub fn bit_length(x: usize) -> usize
     ensures { result ≡ 64 - count_leading_zeros 64 x }
 {
     64 - usize::leading_zeros(x) as usize
 }
 
-// A byte as a number.
-pub fn wide(byte: u8) -> usize
-    ensures { result ≡ byte }
+// Whether a number is below the least or above the most.
+pub fn is_outside(least: usize, most: usize, number: usize) -> bool
+    ensures { result ≡ outside least most number }
 {
-    byte as usize
+    number < least || most < number
 }

@@ -1,7 +1,7 @@
 -- What the checks of a box and of a body give, check by check.
 -- Assumes nothing.
 use mathlib.Core.Path.{◌≡◌, refl, sym, ◌∙◌}
-use mathlib.Core.Bool.{Bool, not, cond}
+use mathlib.Core.Bool.{Bool, true, not, cond}
 use mathlib.Core.List.{List, []}
 use Prim.Native.Nat.{ℕ, ◌+◌, ◌≤◌, ◌<◌}
 use native.Mathlib.Omega.{arith}
@@ -9,16 +9,24 @@ use borrow.Author.Tests.{lt-ltb, le-ltb, ltb-true, not-false}
 use lib.Dec.{eqb, ltb}
 use lib.ListN.{length, take, drop, length-drop}
 use lib.Seq.{length-take-le}
+use Rattle.families.specs.Families.{node_count}
+use Rattle.families.specs.declared.Code.{Code}
 use Rattle.checks.specs.Checks.{Check, first_met}
+use Rattle.checks.specs.Refusals.{IsCodeOf}
 use Rattle.checks.specs.Claims.{NoneMet}
 use Rattle.checks.specs.Parameters.{parameter_checks}
-use Rattle.base.proofs.RangeLaws.{outside_low, outside_high, outside_no}
+use Rattle.base.specs.Ranges.{outside}
+use Rattle.base.proofs.RangeLaws.{outside_no}
 use Rattle.checks.proofs.Laws.{accepted, parameters_none, none_zero, none_left, none_right, none_append, some_append}
 use Rattle.checks.proofs.AnswerLaws.{after_served, after_refused}
 use Rattle.lists.specs.Lists.{list_checks, place_in}
 use Rattle.boxes.specs.Box.{family_in, k_in, block_length_in, held_count_in, zeros_in, names_in, node_count_in, box_length, page_checks, box_checks, body_checks, body_start, body_of}
 
 -- ---- a box
+
+-- n of the box's code
+pub n_is : (bytes : List ℕ) {code : Code} {n : ℕ} → IsCodeOf (family_in bytes) (k_in bytes) code → n ≡ node_count code.family code.k → n ≡ node_count_in bytes
+n_is bytes p e = rw (e, p.family_is, p.k_is)
 
 abbrev pub parameters_of : List ℕ → List Check
 parameters_of bytes = parameter_checks (family_in bytes) (k_in bytes) (block_length_in bytes)
@@ -61,13 +69,9 @@ module _ (bytes : List ℕ) (j : ℕ) where
   by_box n = some_append (box_checks bytes) _ n
 
   module _ (e : first_met (box_checks bytes) ≡ 0) where
-    pub by_low : j < 1 → first_met (body_checks bytes j) ≡ 4
+    pub by_outside : outside 1 (node_count_in bytes) j ≡ true → first_met (body_checks bytes j) ≡ 4
     unfolding body_checks first_met
-    by_low h = none_append (box_checks bytes) _ (box_none bytes e) ∙ rw (outside_low 1 (node_count_in bytes) j h)
-
-    pub by_high : node_count_in bytes < j → first_met (body_checks bytes j) ≡ 4
-    unfolding body_checks first_met
-    by_high h = none_append (box_checks bytes) _ (box_none bytes e) ∙ rw (outside_high 1 (node_count_in bytes) j h)
+    by_outside o = none_append (box_checks bytes) _ (box_none bytes e) ∙ rw o
 
     pub by_missing : 1 ≤ j → j ≤ node_count_in bytes → length (names_in bytes) ≤ place_in (names_in bytes) j → first_met (body_checks bytes j) ≡ 12
     unfolding body_checks first_met

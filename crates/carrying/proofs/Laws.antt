@@ -1,13 +1,18 @@
 -- What the checks of a plan made elsewhere say, and what its check and its steps give.
 -- Assumes nothing.
-use mathlib.Core.Path.{◌≡◌, sym, ap, ap₂, ◌∙◌}
+use mathlib.Core.Path.{◌≡◌, refl, sym, ap, ap₂, ◌∙◌}
 use mathlib.Core.Bool.{true, false}
 use mathlib.Core.List.{List, [], ◌∷◌}
-use Prim.Native.Nat.{ℕ}
+use Prim.Native.Nat.{ℕ, zero, suc}
 use native.Mathlib.Omega.{arith}
 use lib.ListN.{length}
+use Rattle.std.specs.Prelude.{Option, Ok, None, Some}
+use Rattle.base.specs.Numbers.{numbered}
+use Rattle.base.proofs.NumberLaws.{numbered_is, numbered_not}
 use Rattle.families.specs.Families.{family_of}
+use Rattle.families.specs.declared.Code.{Code}
 use Rattle.checks.specs.Checks.{◌gives◌, first_met}
+use Rattle.checks.specs.Refusals.{IsCodeOf}
 use Rattle.checks.proofs.Laws.{none_append, some_append}
 use Rattle.checks.proofs.AnswerLaws.{Gives, serves, refuses}
 use Rattle.planning.specs.Plan.{Step, marks_after}
@@ -17,12 +22,21 @@ use Rattle.validation.specs.Inner.{validated_of}
 use Rattle.validation.proofs.GoodLaws.{all_good_steps}
 use Rattle.validation.proofs.AcceptedLaws.{accepted_are, accepted_none}
 use Rattle.repair.specs.declared.Session.{Session}
-use Rattle.repair.specs.declared.PlanChecked.{PlanChecked}
+use Rattle.repair.specs.Answers.{PlanChecked, bad_with}
 use Rattle.repair.specs.Session.{unsound, nodes_checks}
 use Rattle.repair.specs.Step.{after_steps}
 use Rattle.repair.specs.Carry.{plan_steps, is_cut, bad_in, refused_plan, check_checks, plan_checked, carry_checks, steps_carried, carried, nodes_carried}
 use Rattle.repair.proofs.StartLaws.{nodes_none}
 use Rattle.repair.proofs.AfterLaws.{none_made}
+
+bad_numbered : (n : ℕ) → bad_with (Ok (numbered n)) ≡ n
+bad_numbered zero = refl
+bad_numbered (suc n) = refl
+
+-- what a check gives for a session's code is what it gives for the session
+pub validated_in : (s : Session) (plan : List ℕ) (code : Code) {checked : Validated} → IsCodeOf s.family s.k code
+    → checked ≡ validated_of code.family code.k s.live (plan_steps plan) → checked ≡ validated_of (family_of s.family) s.k s.live (plan_steps plan)
+validated_in s plan code c e = e ∙ rw (c.family_is, c.k_is)
 
 module _ (s : Session) (plan : List ℕ) where
   -- ---- a plan checked
@@ -93,11 +107,22 @@ module _ (s : Session) (plan : List ℕ) where
   -- ---- the plan's steps, checked
 
   module _ (checked : Validated) (is : checked ≡ validated_of (family_of s.family) s.k s.live (plan_steps plan)) where
-    pub checked_bad : checked.bad ≡ bad_in s plan
-    checked_bad = ap (λ (v : Validated). v.bad) is
+    -- the first bad step's number, where there is one
+    pub checked_numbered : checked.bad ≡ numbered (bad_in s plan)
+    checked_numbered = ap (λ (v : Validated). v.bad) is
+
+    -- the same, as the answer has it
+    pub checked_bad : bad_with (Ok checked.bad) ≡ bad_in s plan
+    checked_bad = ap (λ (b : Option ℕ). bad_with (Ok b)) checked_numbered ∙ bad_numbered (bad_in s plan)
+
+    pub checked_none : checked.bad ≡ None → bad_in s plan ≡ 0
+    checked_none e = numbered_not (bad_in s plan) (sym e ∙ checked_numbered)
+
+    pub checked_some : (step : ℕ) → checked.bad ≡ Some step → (step ≡ bad_in s plan) × (step ≡ 0 → ⊥)
+    checked_some step e = numbered_is (bad_in s plan) (sym e ∙ checked_numbered)
 
     -- with none bad, the marks are those after all of them
-    pub checked_live : checked.bad ≡ 0 → checked.live ≡ marks_after s.live (plan_steps plan)
+    pub checked_live : bad_in s plan ≡ 0 → checked.live ≡ marks_after s.live (plan_steps plan)
     checked_live z =
         ap (λ (v : Validated). v.live) is
-        ∙ ap (marks_after s.live) (all_good_steps (family_of s.family) s.k s.live [] (plan_steps plan) (sym checked_bad ∙ z))
+        ∙ ap (marks_after s.live) (all_good_steps (family_of s.family) s.k s.live [] (plan_steps plan) z)

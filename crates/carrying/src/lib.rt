@@ -1,36 +1,13 @@
 // A plan made elsewhere, checked for a session, and carried out where it is accepted.
 #![tactic(auto)]
 
-ghost use Rattle.std.specs.Prelude.{◌≡◌, false};
-ghost use Rattle.families.specs.Families.{family_of};
-ghost use Rattle.validation.specs.Inner.{validated_of};
-ghost use Rattle.repair.specs.Session.{unsound};
-ghost use Rattle.repair.specs.Carry.{plan_steps, is_cut, refused_plan, plan_checked, carried, nodes_carried};
+ghost use Rattle.std.specs.Prelude.{◌≡◌, IfOk};
+ghost use Rattle.base.specs.Numbers.{numbered};
+ghost use Rattle.repair.specs.Answers.{plan_checked_as};
+ghost use Rattle.repair.specs.Carry.{is_cut, bad_in, plan_checked, carried, nodes_carried};
 
-use repair::{PlanChecked, Session};
-use validation::Validated;
-
-// A refusal: its number, and the session as handed in.
-fn refused(session: Session, number: u8) -> PlanChecked
-    ensures { result ≡ refused_plan session number }
-{
-    PlanChecked {
-        refusal: number,
-        bad: 0,
-        session: session,
-    }
-}
-
-// The number of the first bad step, 0 for none, with the session that is handed back.
-fn answered(session: Session, bad: usize) -> PlanChecked
-    ensures { result ≡ record { refusal = 0; bad = bad; session = session } }
-{
-    PlanChecked {
-        refusal: 0,
-        bad: bad,
-        session: session,
-    }
-}
+use checks::Refusal;
+use repair::{Answer, Session};
 
 // Whether a plan is no whole number of steps.
 fn is_cut(plan: &[u8]) -> bool
@@ -39,48 +16,40 @@ fn is_cut(plan: &[u8]) -> bool
     plan.len() % 4 != 0
 }
 
-// The plan's steps checked, from the marks of the session.
-fn validated(session: Session, plan: &[u8]) -> Validated
-    requires { unsound session ≡ false }
-    ensures { result ≡ validated_of (family_of session.family) session.k session.live (plan_steps plan.now) }
+// The number of a plan's first bad step, if it has one. Nothing is written.
+pub fn check_plan(session: Session, plan: &[u8]) -> Answer<Option<usize>>
+    ensures value { plan_checked_as result ≡ plan_checked session plan.now }
+    ensures bad { IfOk result.result (λ bad. bad ≡ numbered (bad_in session plan.now)) }
 {
-    let family = families::family_of(session.family);
-    let live = session.live;
-    validation::validate(family, session.k, live, plan)
-}
-
-// The number of a plan's first bad step. Nothing is written.
-pub fn check_plan(session: Session, plan: &[u8]) -> PlanChecked
-    ensures { result ≡ plan_checked session plan.now }
-{
-    if session.is_unsound() {
-        return refused(session, 13);
-    }
+    let code = match session.code() {
+        Ok(code) => code,
+        Err(unsound) => return session.refused(unsound),
+    };
     if is_cut(plan) {
-        return refused(session, 6);
+        return session.refused(Refusal::BufferLength);
     }
-    let checked = validated(session, plan);
-    answered(session, checked.bad)
+    let checked = validation::validate(code, session.live, plan);
+    session.served(checked.bad)
 }
 
-// The plan carried out on the nodes buffer, if every step of it is good: that is known before a byte is written.
-pub fn carry_plan(session: Session, plan: &[u8], nodes: &mut [u8]) -> PlanChecked
-    ensures value { result ≡ carried session plan.now nodes.old }
+// The plan carried out on the nodes buffer, if every step of it is good: that is known before a byte is written. Else the number of its first
+// bad step.
+pub fn carry_plan(session: Session, plan: &[u8], nodes: &mut [u8]) -> Answer<Option<usize>>
+    ensures value { plan_checked_as result ≡ carried session plan.now nodes.old }
+    ensures bad { IfOk result.result (λ bad. bad ≡ numbered (bad_in session plan.now)) }
     ensures nodes_after { nodes.new ≡ nodes_carried session plan.now nodes.old }
 {
-    let number = session.nodes_refusal(nodes.len());
-    if number != 0 {
-        return refused(session, number);
-    }
+    let code = match session.check_nodes(nodes.len()) {
+        Ok(code) => code,
+        Err(refusal) => return session.refused(refusal),
+    };
     if is_cut(plan) {
-        return refused(session, 6);
+        return session.refused(Refusal::BufferLength);
     }
-    let checked = validated(session, plan);
-    let bad = checked.bad;
-    if bad != 0 {
-        return answered(session, bad);
+    let checked = validation::validate(code, session.live, plan);
+    if let Some(step) = checked.bad {
+        return session.served(Some(step));
     }
-    let live = checked.live;
-    let next = session.make_steps(plan, plan.len() / 4, live, nodes);
-    answered(next, bad)
+    let next = session.make_steps(plan, checked.live, nodes);
+    next.served(None)
 }

@@ -1,3 +1,4 @@
 pub mod Checks
 pub mod Parameters
+pub mod Refusals
 pub mod Claims

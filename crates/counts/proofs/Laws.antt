@@ -8,21 +8,20 @@ use native.Mathlib.Decide.{ℕ_discrete}
 use native.Mathlib.Omega.{arith}
 use borrow.Author.Tests.{eq-eqb, ne_eqb}
 use lib.Dec.{eqb, ltb}
-use lib.ListN.{length, drop, replicate, length-set, drop_of_length-le}
-use lib.Seq.{drop-cons, get_or-set_same, get_or-set_other}
+use lib.ListN.{length, replicate, length-set}
+use lib.Seq.{get_or-set_same, get_or-set_other}
+use Rattle.std.proofs.lemmas.List.Sums.{sum_by-cons}
+use Rattle.std.specs.Prelude.{sum}
 use Rattle.lists.specs.Lists.{some_outside}
 use Rattle.lists.proofs.Laws.{outside_both, passes_inside, passes_one_more}
 use Rattle.counts.specs.Counts.{no_counts, count_of, one_more, count_all, sum_of, counted_outside}
 
 -- ---- the sum
 
-pub sum_step : (counts : List ℕ) (j : ℕ) → j < length counts → sum_of (drop j counts) ≡ count_of counts j + sum_of (drop (suc j) counts)
+pub sum_is : (counts : List ℕ) → sum_of counts ≡ sum counts
 unfolding sum_of
-sum_step counts j h = rw (drop-cons counts j 0 h)
-
-pub sum_end : (counts : List ℕ) (j : ℕ) → length counts ≤ j → sum_of (drop j counts) ≡ 0
-unfolding sum_of
-sum_end counts j h = rw (drop_of_length-le counts h)
+sum_is [] = refl
+sum_is (x ∷ counts) = rw (sum_is counts) (sym (sum_by-cons (λ y. y) x counts))
 
 -- one count is at most the sum
 pub count_most : (counts : List ℕ) (j : ℕ) → count_of counts j ≤ sum_of counts

@@ -30,6 +30,10 @@ few Simplex k r = omega (arith, pow_mono r.most)
 few WeightTwo k r = omega (arith, few_pairs k r.most)
 few Tetrahedron k r = omega arith
 
+-- so that a table of 256 has a place for each
+pub below256 : {f : Family} {k : ℕ} {j : ℕ} → KInRange f k → IsNode f k j → j < 256
+below256 {f} {k} r n = omega (arith, few f k r, n.last)
+
 pub short : (f : Family) (k : ℕ) → KInRange f k → (2 ≤ k) × (k ≤ 22)
 short Simplex k r = (r.least, omega (arith, r.most))
 short WeightTwo k r = (r.least, r.most)

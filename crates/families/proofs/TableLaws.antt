@@ -1,9 +1,9 @@
 -- A list made of a function of the places, and the table of columns that is filled node by node.
 -- Assumes nothing.
-use mathlib.Core.Path.{◌≡◌, refl, sym, ◌∙◌}
+use mathlib.Core.Path.{◌≡◌, refl, sym, ◌∙◌, ap, subst}
 use mathlib.Core.Bool.{Bool, true, false, cond, ◌&&◌}
 use mathlib.Core.List.{List}
-use Prim.Native.Nat.{ℕ, zero, suc, ◌+◌, ◌≤◌, ◌<◌}
+use Prim.Native.Nat.{ℕ, zero, suc, ◌+◌, ◌-◌, ◌≤◌, ◌<◌}
 use native.Mathlib.Decide.{ℕ_discrete, dec_le}
 use native.Mathlib.Omega.{arith}
 use borrow.Author.Tests.{le-leb, lt-leb}
@@ -77,7 +77,18 @@ module _ (f : Family) (k : ℕ) where
           go (yes l) = in_entry (j + 1) (suc p) (omega arith) (omega arith) ∙ sym (in_entry j (suc p) (omega arith) l)
           go (no l) = out_entry (j + 1) (suc p) (omega arith) ∙ sym (out_entry j (suc p) (omega arith))
 
+  -- the same for node j, after those before it
+  pub columns_next : (j v : ℕ) → 1 ≤ j → v ≡ column_of f k j → set (columns_to (j - 1)) j v ≡ columns_to (j + 1 - 1)
+  columns_next j v l e =
+      let there : j ≡ j - 1 + 1 = omega arith in
+      let after : j + 1 - 1 ≡ j - 1 + 1 = omega arith in
+      rw after (subst (λ (i : _). set (columns_to (j - 1)) i v ≡ columns_to (j - 1 + 1)) (sym there) (columns_more (j - 1) v (e ∙ ap (column_of f k) there)))
+
   -- a node's column in the table
   pub table_at : (j : ℕ) → KInRange f k → IsNode f k j → get_or (column_table f k) j 0 ≡ column_of f k j
   unfolding column_table entry
   table_at j r n = get_or-list_from (entry (node_count f k)) 256 j 0 (omega (arith, few f k r, n.last)) ∙ in_entry (node_count f k) j n.first n.last
+
+-- the same in a table that is the table of columns
+pub column_in : {f : Family} {k : ℕ} {j : ℕ} {table : List ℕ} → table ≡ column_table f k → KInRange f k → IsNode f k j → get_or table j 0 ≡ column_of f k j
+column_in {f} {k} {j} table_is r n = rw table_is (table_at f k j r n)

@@ -1,3 +1,4 @@
 pub mod Families
 pub mod Claims
 pub mod Inner
+pub mod Numbers

@@ -1,5 +1,5 @@
 // Weight-two: the nodes are the pairs a < b of the numbers 0 to k, by a and then b; a = 0 stands for no block, so the first
-// k are the data blocks.
+// k are the data blocks. Where a function needs k in its range a clause of its own says so: a type round one number would be no plainer.
 ghost use Rattle.std.specs.Prelude.{◌≡◌, cond, eqb, ◌+◌, ◌^◌, ◌≤◌, ◌<◌};
 ghost use Rattle.families.specs.Families.{KInRange, IsNode, pair_node, node_count, column_of, node_of};
 ghost use Rattle.families.specs.Inner.{unit, column_table};
@@ -20,7 +20,7 @@ pub fn count(k: usize) -> usize
     k * (k + 1) / 2
 }
 
-// The column of data block i alone, 2^i halved: 2^(i - 1), and 0 for i = 0, no block, without a test.
+// The column of data block i alone, 2^i halved: 2^(i - 1), and 0 for i = 0, which is no block's, as by the definition `unit`.
 fn unit_column(i: usize) -> usize
     requires { i ≤ 22 }
     ensures { result ≡ unit i }
@@ -40,7 +40,7 @@ fn rows_before(place: usize) -> usize
     let x = 4 * place + 1;
     let half = base::bit_length(x) / 2;
     let estimate = 45 * ((x >> half) + base::power(half)) / 128;
-    estimate - (place < count(estimate)) as usize
+    estimate - usize::from(place < count(estimate))
 }
 
 // Node j's column. Counted back from the last node, rows from 1 and places in a row from 0, the pair at place t of row r is of the numbers
@@ -65,7 +65,7 @@ fn pair_node(k: usize, i: usize, j: usize) -> usize
 }
 
 // The node with this column, which is below 2^k: its lowest bit and what is left are each a data block's, or the column is no
-// node's.
+// node's, and the definition gives 0.
 pub fn node_below(k: usize, column: usize) -> usize
     requires { KInRange WeightTwo k × (column < 2 ^ k) }
     ensures { result ≡ node_of WeightTwo k column }
@@ -85,7 +85,7 @@ pub fn node_below(k: usize, column: usize) -> usize
     pair_node(k, low + 1, high + 1)
 }
 
-// The node with this column; 0 where there is none.
+// The node with this column; 0 where there is none, as by the definition.
 pub fn node_of(k: usize, column: usize) -> usize
     requires { KInRange WeightTwo k }
     ensures { result ≡ node_of WeightTwo k column }
@@ -108,8 +108,8 @@ fn next_pair(k: usize, pair: Pair) -> Pair
         };
     }
     Pair {
-        smaller: pair.smaller,
         larger: pair.larger + 1,
+        ..pair
     }
 }
 
@@ -124,10 +124,8 @@ pub fn columns(k: usize) -> [usize; 256]
         smaller: 0,
         larger: 1,
     };
-    let mut j: usize = 0;
-    while j < n {
-        j += 1;
-        table[j] = unit_column(pair.smaller) + unit_column(pair.larger);
+    for place in 0..n {
+        table[place + 1] = unit_column(pair.smaller) + unit_column(pair.larger);
         pair = next_pair(k, pair);
     }
     table

@@ -8,8 +8,6 @@ ghost use Rattle.families.specs.declared.Family.TheVariants.{Simplex};
 ghost use Rattle.lists.specs.Inner.{places_of};
 ghost use Rattle.graded.specs.Order.{graded_table, below, columns_left};
 
-use base::wide;
-
 // The columns of k = 8 in that order.
 const COLUMNS: [u8; 255] = [
     1, 2, 4, 8, 16, 32, 64, 128, 3, 5, 9, 17, 33, 65, 129, 6, 10, 18, 34, 66, 130, 12, 20, 36, 68,
@@ -39,11 +37,7 @@ fn all_nodes(columns: [u8; 255]) -> [u8; 256]
     ensures { result ≡ 0 ∷ columns }
 {
     let mut nodes = [0u8; 256];
-    let mut i: usize = 0;
-    while i < 255 {
-        nodes[i + 1] = columns[i];
-        i += 1;
-    }
+    nodes[1..].copy_from_slice(&columns);
     nodes
 }
 
@@ -53,12 +47,9 @@ fn nodes_below(columns: [u8; 255], bound: usize) -> [u8; 256]
     ensures { result ≡ 0 ∷ below bound graded_table ++ replicate (255 - length (below bound graded_table)) 0 }
 {
     let mut nodes = [0u8; 256];
-    let mut p: usize = 0;
-    let mut i: usize = 0;
-    while i < 255 {
-        let column = columns[i];
-        i += 1;
-        if wide(column) < bound {
+    let mut p = 0;
+    for column in columns {
+        if usize::from(column) < bound {
             p += 1;
             nodes[p] = column;
         }
@@ -66,7 +57,8 @@ fn nodes_below(columns: [u8; 255], bound: usize) -> [u8; 256]
     nodes
 }
 
-// The node at each position of k, whose number is its column; 0 at 0 and after the last.
+// The node at each position of k, whose number is its column; 0 at 0 and after the last. It takes k alone, and no `Code`: the order is one of
+// simplex nodes only. 0 is no node's number, and is what the definition has there; an `Option` of a byte takes two bytes.
 pub fn nodes(k: usize) -> [u8; 256]
     requires { KInRange Simplex k }
     ensures { result ≡ 0 ∷ columns_left k ++ replicate (256 - 2 ^ k) 0 }
@@ -77,18 +69,16 @@ pub fn nodes(k: usize) -> [u8; 256]
     nodes_below(table(), base::power(k))
 }
 
-// The position of each node of k; 0 for other numbers. It goes from the last position to the first, as the places of a list are laid
-// down.
+// The position of each node of k; 0 for other numbers, as in `nodes`. It goes from the last position to the first, as the places of a list
+// are laid down. `as`: a position is below 2^k, which is 256 at most.
 pub fn positions(k: usize) -> [u8; 256]
     requires { KInRange Simplex k }
     ensures { result ≡ places_of (columns_left k) }
 {
     let nodes = nodes(k);
     let mut positions = [0u8; 256];
-    let mut p = base::power(k) - 1;
-    while 0 < p {
-        positions[wide(nodes[p])] = (p % 256) as u8;
-        p -= 1;
+    for p in (1..base::power(k)).rev() {
+        positions[usize::from(nodes[p])] = p as u8;
     }
     positions
 }

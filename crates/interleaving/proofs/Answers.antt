@@ -1,6 +1,6 @@
 -- What a call gives and leaves, refused or accepted, and what an accepted one has been given.
 -- Assumes nothing.
-use mathlib.Core.Path.{◌≡◌, sym, ◌∙◌}
+use mathlib.Core.Path.{◌≡◌, ◌∙◌}
 use mathlib.Core.List.{List}
 use Prim.Native.Nat.{ℕ, ◌*◌}
 use lib.ListN.{length}
@@ -26,11 +26,3 @@ module _ (family k L : ℕ) (bytes out : List ℕ) where
     pub written : interleave_answer family k L bytes out ≡ 0 → out_moved rule family k L bytes out ≡ rule k L bytes
     unfolding out_moved interleave_answer
     written e = after_served (interleave_checks family k L (length bytes) (length out)) _ out e
-
-    -- a function that gives the number of the first check that is met, and leaves its destination
-    pub refuses : (number : ℕ) → number ≡ interleave_answer family k L bytes out → (number ≡ 0 → ⊥) → (number ≡ interleave_answer family k L bytes out) × (out ≡ out_moved rule family k L bytes out)
-    refuses number e h = (e, sym (kept (λ z. h (e ∙ z))))
-
-    -- one that gives 0, and leaves what the rule gives
-    pub serves : (after : List ℕ) → interleave_answer family k L bytes out ≡ 0 → after ≡ rule k L bytes → (0 ≡ interleave_answer family k L bytes out) × (after ≡ out_moved rule family k L bytes out)
-    serves after e is = (sym e, is ∙ sym (written e))

@@ -12,11 +12,9 @@ fn output_room() -> [u8; 8192]
 
 fn main(rt: HostRuntime) {
     let mut input = listing::input_room();
-    let read = stdio::read_input(&rt, &mut input);
-    if read.failed {
+    let Ok(count) = stdio::read_input(&rt, &mut input) else {
         return;
-    }
-    let count = read.count;
+    };
     let mut out = output_room();
     let size = listing::list(&input[..count], &mut out);
     stdio::print(&rt, &out[..size]);

@@ -1,5 +1,5 @@
 -- What the programs print of an input that is turned away, and what the lister prints (document 01, "Two programs").
-use Rattle.std.specs.Prelude.{ℕ, cond, eqb, ltb, length}
+use Rattle.std.specs.Prelude.{ℕ, Result, Ok, Err, cond, eqb, ltb, length}
 use mathlib.Core.List.{List, ◌++◌, flat_map}
 use Rattle.lists.specs.Lists.{live_nodes}
 use Rattle.repair.specs.declared.Session.{Session}
@@ -17,6 +17,11 @@ unfoldable pub answer_of : List ℕ → List ℕ → List ℕ
 answer_of input text =
     let number = (checked_box input).refusal in
     cond (ltb most_bytes (length input)) too_long_line (cond (eqb number 0) text (refusal_line number))
+
+-- how long that is, 0 where the input is accepted
+abbrev pub said_in : Result Session ℕ → ℕ
+said_in (Ok s) = 0
+said_in (Err said) = said
 
 -- a first line with family, k, length and live count, a line for each step of the plan, and a last line with its steps,
 -- rounds and nodes left

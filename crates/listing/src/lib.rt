@@ -5,13 +5,15 @@
 mod lines;
 pub mod text;
 
-ghost use Rattle.std.specs.Prelude.{◌≡◌, false, ◌+◌, ◌≤◌, length, drop, replicate};
+ghost use Rattle.std.specs.Prelude.{◌≡◌, ◌≢◌, false, Ok, ◌+◌, ◌≤◌, IfOk, IfErr, length, drop, replicate};
 ghost use mathlib.Core.List.{[], ◌++◌, flat_map};
+ghost use Rattle.repair.specs.Answers.{started_as};
 ghost use Rattle.repair.specs.Session.{unsound};
+ghost use Rattle.repair.specs.Boxed.{checked_box};
 ghost use Rattle.repair.specs.Repairs.{plan_in, repairs_of};
 ghost use Rattle.listing.specs.Inner.{Put};
 ghost use Rattle.listing.specs.Text.{step_line, last_line, too_long_line};
-ghost use Rattle.listing.specs.Listing.{answer_of, listing_in, listing_of};
+ghost use Rattle.listing.specs.Listing.{said_in, answer_of, listing_in, listing_of};
 
 use crate::lines::{put_first_line, put_last_line, put_refusal_line, put_step_lines};
 use crate::text::put;
@@ -37,21 +39,21 @@ pub fn put_too_long(out: &mut [u8]) -> usize
     put(b"too long\n", out, 0)
 }
 
-// What is printed of an input that is turned away, at the front of `out`; gives its length, and 0 where the input is accepted.
-pub fn turned_away(input: &[u8], out: &mut [u8]) -> usize
+// The session of an accepted input. Of any other, what is printed is at the front of `out`, and its length is given.
+pub fn session_in(input: &[u8], out: &mut [u8]) -> Result<Session, usize>
     requires { 29 ≤ length out.old }
-    ensures value { (result ≡ length (answer_of input.now [])) × (result ≤ 29) }
+    ensures value { (said_in result ≡ length (answer_of input.now [])) × (said_in result ≤ 29) }
+    ensures session { IfOk result (λ s. started_as (Ok s) ≡ checked_box input.now) }
+    ensures turned_away { IfErr result (λ said. said ≢ 0) }
     ensures out_after { out.new ≡ answer_of input.now [] ++ drop (length (answer_of input.now [])) out.old }
 {
     if MOST_BYTES < input.len() {
-        return put_too_long(out);
+        return Err(put_too_long(out));
     }
-    let checked = Session::check(input);
-    let number = checked.refusal;
-    if number == 0 {
-        return 0;
+    match Session::check(input) {
+        Ok(session) => Ok(session),
+        Err(refusal) => Err(put_refusal_line(usize::from(u8::from(refusal)), out)),
     }
-    put_refusal_line(number as usize, out)
 }
 
 // The plan of an accepted box's session, a line for each step and the last line, from place `at` on; gives the place after it.
@@ -63,8 +65,9 @@ fn put_plan(session: Session, out: &mut [u8], at: usize) -> usize
 {
     let mut steps = repair::plan_room();
     let made = session.plan(&mut steps);
-    let last = put_step_lines(&steps, made.steps, out, at);
-    put_last_line(made.steps, made.rounds, made.left, out, last)
+    let totals = made.result.unwrap();
+    let last = put_step_lines(&steps[..4 * totals.steps], out, at);
+    put_last_line(totals.steps, totals.rounds, totals.left, out, last)
 }
 
 // The listing of an accepted box's session, at the front of `out`; gives its length.
@@ -73,9 +76,9 @@ fn put_listing(session: Session, out: &mut [u8]) -> usize
     requires in_bounds { 8192 ≤ length out.old }
     ensures { Put out.old 0 (listing_in session) out.new result }
 {
-    let n = families::node_count_of(session.family, session.k);
+    let code = session.code().unwrap();
     let live = session.live;
-    let count = lists::count_live(&live, n);
+    let count = lists::count_live(&live, code.node_count());
     let next = put_first_line(session.family, session.k, session.len, count, out);
     put_plan(session, out, next)
 }
@@ -85,11 +88,8 @@ pub fn list(input: &[u8], out: &mut [u8; 8192]) -> usize
     ensures value { (result ≡ length (listing_of input.now)) × (result ≤ 8192) }
     ensures out_after { out.new ≡ listing_of input.now ++ drop (length (listing_of input.now)) out.old }
 {
-    let said = turned_away(input, out);
-    if said != 0 {
-        return said;
+    match session_in(input, out) {
+        Ok(session) => put_listing(session, out),
+        Err(said) => said,
     }
-    let checked = Session::check(input);
-    let session = checked.session;
-    put_listing(session, out)
 }

@@ -1,5 +1,5 @@
 // The lines of the two programs.
-ghost use Rattle.std.specs.Prelude.{◌≡◌, ◌+◌, ◌*◌, ◌≤◌, length, drop};
+ghost use Rattle.std.specs.Prelude.{◌≡◌, ◌+◌, ◌*◌, ◌/◌, ◌≤◌, length, drop};
 ghost use mathlib.Core.List.{◌++◌, flat_map};
 ghost use Rattle.planning.specs.Made.{steps_in};
 ghost use Rattle.listing.specs.Inner.{Put};
@@ -7,7 +7,7 @@ ghost use Rattle.listing.specs.Text.{first_line, step_line, last_line, refusal_l
 
 use crate::text::{put_field, put_fields, put_last_field, put_last_fields};
 
-// `family 1 k 3 length 1 live 3`, at the front of `out`.
+// `family 1 k 3 length 1 live 3`, at the front of `out`. The family is a number, as it is printed.
 pub fn put_first_line(family: usize, k: usize, len: usize, live: usize, out: &mut [u8]) -> usize
     requires { length (first_line family k len live) ≤ length out.old }
     ensures { Put out.old 0 (first_line family k len live) out.new result }
@@ -21,20 +21,25 @@ fn put_step_line(round: u8, node: u8, smaller: u8, larger: u8, out: &mut [u8], a
     requires { at + length (step_line (record { round = round; node = node; smaller = smaller; larger = larger })) ≤ length out.old }
     ensures { Put out.old at (step_line (record { round = round; node = node; smaller = smaller; larger = larger })) out.new result }
 {
-    let next = put_fields(b"", round as usize, b" ", node as usize, out, at);
-    put_last_fields(b" ", smaller as usize, b" ", larger as usize, out, next)
+    let next = put_fields(b"", usize::from(round), b" ", usize::from(node), out, at);
+    put_last_fields(
+        b" ",
+        usize::from(smaller),
+        b" ",
+        usize::from(larger),
+        out,
+        next,
+    )
 }
 
-// A line for each of the first `count` steps in a list of bytes, four bytes a step.
-pub fn put_step_lines(steps: &[u8], count: usize, out: &mut [u8], at: usize) -> usize
-    requires count_in_bounds { 4 * count ≤ length steps.now }
-    requires count_in_bounds_2 { at + 16 * count ≤ length out.old }
-    ensures put { Put out.old at (flat_map step_line (steps_in steps.now count)) out.new result }
-    ensures upper_bound { result ≤ at + 16 * count }
+// A line for each step in a list of bytes, four bytes a step.
+pub fn put_step_lines(steps: &[u8], out: &mut [u8], at: usize) -> usize
+    requires { at + 16 * (length steps.now / 4) ≤ length out.old }
+    ensures put { Put out.old at (flat_map step_line (steps_in steps.now (length steps.now / 4))) out.new result }
+    ensures upper_bound { result ≤ at + 16 * (length steps.now / 4) }
 {
     let mut next = at;
-    let mut i: usize = 0;
-    while i < count {
+    for i in 0..steps.len() / 4 {
         let byte = 4 * i;
         next = put_step_line(
             steps[byte],
@@ -44,7 +49,6 @@ pub fn put_step_lines(steps: &[u8], count: usize, out: &mut [u8], at: usize) -> 
             out,
             next,
         );
-        i += 1;
     }
     next
 }

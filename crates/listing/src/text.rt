@@ -13,7 +13,7 @@ pub fn put(word: &[u8], out: &mut [u8], at: usize) -> usize
     end
 }
 
-// A number in base ten.
+// A number in base ten. `as`: there is no `From` of `usize` for `u64`.
 fn put_number(n: usize, out: &mut [u8], at: usize) -> usize
     requires { at + length (decimal n) ≤ length out.old }
     ensures { Put out.old at (decimal n) out.new result }
@@ -32,7 +32,7 @@ pub fn put_field(word: &[u8], n: usize, out: &mut [u8], at: usize) -> usize
     put_number(n, out, number)
 }
 
-// Two words, each with its number.
+// Two words, each with its number. One function with `put_last_fields` would take the line's end as one more word, which is empty here.
 pub fn put_fields(
     first: &[u8],
     a: usize,

@@ -1,28 +1,20 @@
--- A list without one of its numbers: how far those after it are moved down, and that of marks it is the list with that node missing.
+-- A list without one of its numbers: its length, and that of marks it is the list with that node missing.
 -- Assumes nothing.
 use mathlib.Core.Path.{◌≡◌, refl, sym, ap, ap₂, ◌∙◌}
 use mathlib.Core.Bool.{Bool, true, false}
 use mathlib.Core.List.{List, [], ◌∷◌, ◌++◌}
 use Prim.Native.Nat.{ℕ, zero, suc, ◌+◌, ◌-◌, ◌≤◌, ◌<◌}
 use native.Mathlib.Decide.{ℕ_discrete}
-use native.Mathlib.Numerals.{add-one}
 use native.Mathlib.Omega.{arith}
-use lib.ListN.{length, get_or, set, take, drop, length-append, length-take, length-drop, take-append-drop}
-use lib.Seq.{take_all, take_at, drop_at, length-take-le, get_or-append-add, get_or-drop, get_or-set_other}
+use lib.ListN.{length, set, take, drop, length-append, length-drop}
+use lib.Seq.{take_at, length-take-le, get_or-set_other}
 use Rattle.base.specs.Ranges.{those_from}
-use Rattle.base.proofs.Fill.{filled, fill_more}
 use Rattle.base.proofs.RangeLaws.{those_append, same_from}
 use Rattle.base.proofs.Tests.{not_both}
 use Rattle.lists.specs.Lists.{is_live, live_nodes}
 use Rattle.lists.specs.Inner.{without_place}
 
--- ---- the numbers after a place moved down
-
--- those as far as place i are
-pub record Moved (start list : List ℕ) (place i : ℕ) : Type 0 where
-  pub from : place ≤ i
-  pub within : i < length start
-  pub moved : list ≡ filled (without_place place start) start i
+-- ---- how long it is
 
 module _ (start : List ℕ) (place : ℕ) (inside : place < length start) where
   abbrev kept : List ℕ
@@ -33,46 +25,6 @@ module _ (start : List ℕ) (place : ℕ) (inside : place < length start) where
 
   kept_length : length kept ≡ length start - 1
   kept_length = omega (arith, length-append (take place start) (drop (suc place) start), head_length, length-drop (suc place) start)
-
-  pub moved_none : Moved start start place place
-  moved_none =
-      record {
-        from = omega arith;
-        within = inside;
-        moved = sym (ap (λ (s : List ℕ). s ++ drop place start) (take_at (take place start) (drop (suc place) start) place head_length) ∙ take-append-drop place start);
-      }
-
-  module _ {list : List ℕ} {i : ℕ} (w : Moved start list place i) where
-    pub moved_length : length list ≡ length start
-    moved_length = omega (arith, ap length w.moved, length-append (take i kept) (drop i start), length-take i kept, kept_length, length-drop i start, w.within)
-
-    module _ (h : i + 1 < length start) where
-      -- the next number has not been moved
-      next : get_or list (i + 1) 0 ≡ get_or start (i + 1) 0
-      next =
-          let l : length (take i kept) ≡ i = length-take-le i kept (omega (arith, kept_length)) in
-          let e : i + 1 ≡ length (take i kept) + 1 = omega (arith, l) in
-          ap (λ (s : List ℕ). get_or s (i + 1) 0) w.moved ∙ ap (λ (j : ℕ). get_or (take i kept ++ drop i start) j 0) e ∙ get_or-append-add (take i kept) (drop i start) 1 0 ∙ get_or-drop i start 1 0
-
-      -- and is the one that has this place
-      at : get_or kept i 0 ≡ get_or start (i + 1) 0
-      at =
-          let e : i ≡ length (take place start) + (i - place) = omega (arith, head_length, w.from) in
-          let g : suc place + (i - place) ≡ i + 1 = omega (arith, w.from) in
-          ap (λ (j : ℕ). get_or kept j 0) e ∙ get_or-append-add (take place start) (drop (suc place) start) (i - place) 0 ∙ get_or-drop (suc place) start (i - place) 0 ∙ ap (λ (j : ℕ). get_or start j 0) g
-
-      pub moved_more : Moved start (set list i (get_or list (i + 1) 0)) place (i + 1)
-      moved_more =
-          record {
-            from = omega (arith, w.from);
-            within = h;
-            moved = ap (λ (s : List ℕ). set s i (get_or list (i + 1) 0)) w.moved ∙ fill_more kept start i 0 (omega (arith, kept_length)) (omega arith) (next ∙ sym at);
-          }
-
-    pub moved_done : length start ≤ i + 1 → list ≡ kept ++ drop (length start - 1) start
-    moved_done h =
-        let e : i ≡ length start - 1 = omega (arith, w.within) in
-        w.moved ∙ ap₂ ◌++◌ (take_all i kept (omega (arith, kept_length))) (ap (λ (j : ℕ). drop j start) e)
 
 -- ---- a mark set missing
 

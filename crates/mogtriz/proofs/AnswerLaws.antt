@@ -10,12 +10,7 @@ use lib.Dec.{eqb}
 use lib.ListN.{length}
 use Rattle.checks.proofs.AnswerLaws.{answer_either}
 use Rattle.repair.specs.declared.Session.{Session}
-use Rattle.repair.specs.declared.Stepped.{Stepped}
-use Rattle.repair.specs.declared.Repairs.{Repairs}
-use Rattle.repair.specs.declared.Written.{Written}
-use Rattle.repair.specs.declared.ReadOut.{ReadOut}
-use Rattle.repair.specs.declared.PairsFound.{PairsFound}
-use Rattle.repair.specs.declared.PlanChecked.{PlanChecked}
+use Rattle.repair.specs.Answers.{Stepped, Repairs, Written, ReadOut, PairsFound, PlanChecked}
 use Rattle.repair.specs.Step.{step_checks, stepped}
 use Rattle.repair.specs.Repairs.{refused_repairs, plan_checks, planned, ran}
 use Rattle.repair.specs.Carry.{refused_plan, check_checks, plan_checked, carry_checks, carried}

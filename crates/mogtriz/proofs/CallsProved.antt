@@ -12,11 +12,10 @@ use Rattle.boxes.specs.Box.{names_in}
 use Rattle.repair.specs.declared.Session.{Session}
 use Rattle.repair.specs.Session.{Arrays}
 use Rattle.repair.specs.Refusals.{NotThirteen}
-use Rattle.repair.specs.declared.Written.{Written}
-use Rattle.repair.specs.declared.ReadOut.{ReadOut}
+use Rattle.repair.specs.Answers.{Written, ReadOut}
 use Rattle.repair.specs.Boxed.{read_box, nodes_read, written, out_written}
 use Rattle.repair.specs.ReadOut.{read_out_of, object_out}
-use Rattle.repair.specs.Repairs.{planned, ran, nodes_ran}
+use Rattle.repair.specs.Repairs.{ran, nodes_ran}
 use Rattle.repair.specs.Calls.{Move, State, called, state_after}
 use Rattle.repair.specs.LeftOver.{last_session}
 use Rattle.repair.specs.RepairClaims.{LiveAreOwn, OwnClaims}

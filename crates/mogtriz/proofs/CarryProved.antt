@@ -10,7 +10,7 @@ use lib.ListN.{get_or, length-map}
 use Rattle.lists.specs.Lists.{is_live}
 use Rattle.planning.specs.Plan.{Step, repaired_nodes}
 use Rattle.repair.specs.declared.Session.{Session}
-use Rattle.repair.specs.declared.PlanChecked.{PlanChecked}
+use Rattle.repair.specs.Answers.{PlanChecked}
 use Rattle.repair.specs.Session.{Arrays}
 use Rattle.repair.specs.Step.{stepped, nodes_stepped}
 use Rattle.repair.specs.Carry.{plan_steps, bad_in, plan_checked, carried}

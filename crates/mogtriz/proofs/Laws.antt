@@ -1,11 +1,11 @@
 -- What the numbers given to a C function say of a family, where it has nodes.
 -- Assumes nothing.
 use mathlib.Core.Path.{◌≡◌}
-use mathlib.Core.Bool.{true}
-use Prim.Native.Nat.{ℕ}
-use native.Mathlib.Decide.{ℕ_discrete}
+use mathlib.Core.Bool.{true, false, ◌&&◌}
+use Prim.Native.Nat.{ℕ, ◌≤◌}
+use native.Mathlib.Decide.{ℕ_discrete, dec_le}
 use native.Mathlib.Omega.{arith}
-use borrow.Author.Tests.{ne_eqb, leb-true}
+use borrow.Author.Tests.{ne_eqb, leb-true, le-leb, lt-leb}
 use lib.Dec.{leb}
 use Rattle.base.proofs.Tests.{and_left, and_right}
 use Rattle.families.specs.Families.{family_of, KInRange, IsNode, node_count}
@@ -46,3 +46,12 @@ node family k j h =
     let b = leb-true j (node_count_or0 family k) (and_right (leb 1 j) (leb j (node_count_or0 family k)) h) in
     let n = known family k (λ z. omega (arith, z, a, b)) in
     record { range = n.range; is_node = record { first = a; last = omega (arith, b, n.count) } }
+
+-- where they are not, no number is a node's
+pub no_node : (family k j : ℕ) → (first_met (parameter_checks family k 1) ≡ 0 → ⊥) → is_node family k j ≡ false
+unfolding is_node
+no_node family k j h = rw (count_refused family k h) (go (dec_le 1 j))
+  where
+    go : Dec (1 ≤ j) → (leb 1 j && leb j 0) ≡ false
+    go (yes l) = simp (le-leb 1 j l, lt-leb j 0 (omega (arith, l)))
+    go (no g) = simp (lt-leb 1 j (omega (arith, g)))

@@ -18,7 +18,7 @@ use Rattle.pairing.specs.Pairs.{most_pairs, NoPairLeft}
 use Rattle.planning.specs.Plan.{Step, repaired_nodes, times_read}
 use Rattle.leftover.specs.Open.{Open, OpenCount}
 use Rattle.repair.specs.declared.Session.{Session}
-use Rattle.repair.specs.declared.Started.{Started}
+use Rattle.repair.specs.Answers.{Started}
 use Rattle.repair.specs.Session.{refused_start, started, unsound}
 use Rattle.repair.specs.Refusals.{Refused}
 use Rattle.repair.specs.Boxed.{read_box, nodes_read, written, out_written}

@@ -2,7 +2,7 @@
 -- A lent buffer holds what the own operation leaves.
 use Rattle.std.specs.Prelude.{ℕ, cond, List, eqb}
 use Rattle.repair.specs.declared.Session.{Session}
-use Rattle.repair.specs.declared.Repairs.{Repairs}
+use Rattle.repair.specs.Answers.{Repairs}
 use Rattle.repair.specs.Step.{stepped}
 use Rattle.repair.specs.Repairs.{planned, ran}
 use Rattle.repair.specs.Pairs.{pairs_found}

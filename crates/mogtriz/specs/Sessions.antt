@@ -4,8 +4,7 @@ use Rattle.checks.specs.Checks.{answer}
 use Rattle.lists.specs.Lists.{none_live}
 use Rattle.boxes.specs.Box.{block_length_in, body_checks, body_start}
 use Rattle.repair.specs.declared.Session.{Session}
-use Rattle.repair.specs.declared.Started.{Started}
-use Rattle.repair.specs.declared.Written.{Written}
+use Rattle.repair.specs.Answers.{Started, Written}
 use Rattle.repair.specs.Session.{session_with}
 use Rattle.repair.specs.Boxed.{written}
 use Rattle.repair.specs.LiveNodes.{live_listed}

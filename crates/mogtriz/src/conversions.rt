@@ -10,7 +10,7 @@ pub extern "C" fn mogtriz_from_graded(bytes: &[u8], out: &mut [u8]) -> Converted
     ensures value { result ≡ converted bytes.now out.old }
     ensures out_after { out.new ≡ out_converted from_graded bytes.now out.old }
 {
-    conversion::from_graded(bytes, out)
+    Converted::from(conversion::from_graded(bytes, out))
 }
 
 // A box with our numbers, converted to graded order.
@@ -19,5 +19,5 @@ pub extern "C" fn mogtriz_to_graded(bytes: &[u8], out: &mut [u8]) -> Converted
     ensures value { result ≡ converted bytes.now out.old }
     ensures out_after { out.new ≡ out_converted to_graded bytes.now out.old }
 {
-    conversion::to_graded(bytes, out)
+    Converted::from(conversion::to_graded(bytes, out))
 }

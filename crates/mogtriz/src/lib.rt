@@ -30,7 +30,7 @@ pub extern "C" fn mogtriz_encode(
     ensures value { result ≡ encode_answer family k len object.now nodes.old }
     ensures nodes_after { nodes.new ≡ encoded family k len object.now nodes.old }
 {
-    encoding::encode(family, k, len, object, nodes)
+    checks::number(encoding::encode(family, k, len, object, nodes))
 }
 
 // The bytes of an object spread over its blocks: 0, or the refusal's number, and then nothing is written.
@@ -45,7 +45,7 @@ pub extern "C" fn mogtriz_interleave(
     ensures value { result ≡ interleave_answer family k len object.now out.old }
     ensures out_after { out.new ≡ out_moved interleaved family k len object.now out.old }
 {
-    interleaving::interleave(family, k, len, object, out)
+    checks::number(interleaving::interleave(family, k, len, object, out))
 }
 
 // The inverse: the bytes of the object put back.
@@ -60,7 +60,7 @@ pub extern "C" fn mogtriz_deinterleave(
     ensures value { result ≡ interleave_answer family k len object.now out.old }
     ensures out_after { out.new ≡ out_moved deinterleaved family k len object.now out.old }
 {
-    interleaving::deinterleave(family, k, len, object, out)
+    checks::number(interleaving::deinterleave(family, k, len, object, out))
 }
 
 // n, the number of nodes; 0 where the family or k is out of range.
@@ -68,19 +68,17 @@ pub extern "C" fn mogtriz_deinterleave(
 pub extern "C" fn mogtriz_node_count(family: usize, k: usize) -> usize
     ensures { result ≡ node_count_or0 family k }
 {
-    if checks::parameter_refusal(family, k, 1) != 0 {
-        return 0;
+    match checks::parameters(family, k, 1) {
+        Ok(code) => code.node_count(),
+        Err(_) => 0,
     }
-    families::node_count_of(family, k)
 }
 
+// Whether a number is a node's, of any family and k that C hands over, in range or not.
 fn is_node(family: usize, k: usize, j: usize) -> bool
     ensures { result ≡ is_node family k j }
 {
-    if j < 1 {
-        return false;
-    }
-    j <= mogtriz_node_count(family, k)
+    1 <= j && j <= mogtriz_node_count(family, k)
 }
 
 // The node's column; 0 where there is no such node.
@@ -88,10 +86,10 @@ fn is_node(family: usize, k: usize, j: usize) -> bool
 pub extern "C" fn mogtriz_column(family: usize, k: usize, node: usize) -> usize
     ensures { result ≡ column_or0 family k node }
 {
-    if !is_node(family, k, node) {
-        return 0;
+    match checks::parameters(family, k, 1) {
+        Ok(code) if is_node(family, k, node) => code.column(node),
+        _ => 0,
     }
-    families::column(families::family_of(family), k, node)
 }
 
 // The node with this column; 0 where there is no such node.
@@ -99,10 +97,10 @@ pub extern "C" fn mogtriz_column(family: usize, k: usize, node: usize) -> usize
 pub extern "C" fn mogtriz_node_of_column(family: usize, k: usize, column: usize) -> usize
     ensures { result ≡ node_or0 family k column }
 {
-    if checks::parameter_refusal(family, k, 1) != 0 {
-        return 0;
+    match checks::parameters(family, k, 1) {
+        Ok(code) => code.node_of(column),
+        Err(_) => 0,
     }
-    families::node_of(families::family_of(family), k, column)
 }
 
 // 1 where the three numbers are nodes and related, else 0.
@@ -110,17 +108,10 @@ pub extern "C" fn mogtriz_node_of_column(family: usize, k: usize, column: usize)
 pub extern "C" fn mogtriz_related(family: usize, k: usize, a: usize, b: usize, c: usize) -> u8
     ensures { result ≡ related_or0 family k a b c }
 {
-    if !is_node(family, k, a) {
-        return 0;
+    match checks::parameters(family, k, 1) {
+        Ok(code) if is_node(family, k, a) && is_node(family, k, b) && is_node(family, k, c) => {
+            u8::from(code.related(a, b, c))
+        }
+        _ => 0,
     }
-    if !is_node(family, k, b) {
-        return 0;
-    }
-    if !is_node(family, k, c) {
-        return 0;
-    }
-    if families::related(families::family_of(family), k, a, b, c) {
-        return 1;
-    }
-    0
 }

@@ -1,14 +1,17 @@
-// Step, plan, run, the pairs of a node and plans made elsewhere from C. A refusal hands the session back as it came, byte for byte; a step, run or plan that is
-// carried out gives the next one.
+// Step, plan, run, the pairs of a node and plans made elsewhere from C. A refusal hands the session back as it came, byte for byte; a
+// step, run or plan that is carried out gives the next one.
 ghost use Rattle.std.specs.Prelude.{◌≡◌};
+ghost use Rattle.checks.specs.Refusals.{number_in};
+ghost use Rattle.repair.specs.Answers.{repairs_as, bad_with};
 ghost use Rattle.repair.specs.Step.{nodes_stepped};
 ghost use Rattle.repair.specs.Repairs.{out_planned, nodes_ran};
 ghost use Rattle.repair.specs.Carry.{nodes_carried};
 ghost use Rattle.mogtriz.specs.Sessions.{session_of_c};
 ghost use Rattle.mogtriz.specs.Repairs.{handed_back, repairs_c, stepped_c, planned_c, ran_c, pairs_found_c, plan_checked_c, carried_c};
 
-use crate::sessions::{MarkedSession, marked};
-use repair::{Repairs, Session};
+use crate::sessions::MarkedSession;
+use pairing::Pairs;
+use repair::{Answer, Session, Totals};
 
 // C's mogtriz_stepped.
 #[repr(C)]
@@ -49,26 +52,46 @@ pub struct PlanAnswer {
     pub session: MarkedSession,
 }
 
-// The session that C gets: the one it handed in where that is refused, else the next.
+// The session that C gets: the one it handed in where that is refused, else the next, by the number that C gets with it.
 fn handed_back(session: MarkedSession, refusal: u8, next: Session) -> MarkedSession
     ensures { result ≡ handed_back session refusal next }
 {
     if refusal != 0 {
         return session;
     }
-    marked(next)
+    MarkedSession::from(next)
 }
 
 // The numbers of a plan or run with the session that C gets.
-fn repairs_for_c(answer: Repairs, session: MarkedSession) -> RepairsAnswer
-    ensures { result ≡ repairs_c answer session }
+fn repairs_for_c(answer: Answer<Totals>, session: MarkedSession) -> RepairsAnswer
+    ensures { result ≡ repairs_c (repairs_as answer) session }
 {
+    let totals = answer.result.unwrap_or(Totals {
+        steps: 0,
+        rounds: 0,
+        left: 0,
+    });
     RepairsAnswer {
-        refusal: answer.refusal,
-        steps: answer.steps,
-        rounds: answer.rounds,
-        left: answer.left,
-        session: session,
+        refusal: checks::number(answer.result),
+        steps: totals.steps,
+        rounds: totals.rounds,
+        left: totals.left,
+        session,
+    }
+}
+
+// The number of a plan's first bad step, 0 where it has none, with the session that C gets.
+fn plan_for_c(answer: Answer<Option<usize>>, session: MarkedSession) -> PlanAnswer
+    ensures { result ≡ record { refusal = number_in answer.result; bad = bad_with answer.result; session = session } }
+{
+    let bad = match answer.result {
+        Ok(Some(step)) => step,
+        _ => 0,
+    };
+    PlanAnswer {
+        refusal: checks::number(answer.result),
+        bad,
+        session,
     }
 }
 
@@ -84,12 +107,11 @@ pub extern "C" fn mogtriz_step(
     ensures value { result ≡ stepped_c session nodes.old node first second }
     ensures nodes_after { nodes.new ≡ nodes_stepped (session_of_c session) nodes.old node first second }
 {
-    let stepped = session.session().step(nodes, node, first, second);
-    let next = stepped.session;
-    let given = handed_back(session, stepped.refusal, next);
+    let stepped = Session::from(session).step(nodes, node, first, second);
+    let refusal = checks::number(stepped.result);
     StepAnswer {
-        refusal: stepped.refusal,
-        session: given,
+        refusal,
+        session: handed_back(session, refusal, stepped.session),
     }
 }
 
@@ -99,7 +121,7 @@ pub extern "C" fn mogtriz_plan(session: MarkedSession, out: &mut [u8]) -> Repair
     ensures value { result ≡ planned_c session out.old }
     ensures out_after { out.new ≡ out_planned (session_of_c session) out.old }
 {
-    let planned = session.session().plan(out);
+    let planned = Session::from(session).plan(out);
     repairs_for_c(planned, session)
 }
 
@@ -109,9 +131,8 @@ pub extern "C" fn mogtriz_run(session: MarkedSession, nodes: &mut [u8]) -> Repai
     ensures value { result ≡ ran_c session nodes.old }
     ensures nodes_after { nodes.new ≡ nodes_ran (session_of_c session) nodes.old }
 {
-    let ran = session.session().run(nodes);
-    let next = ran.session;
-    let given = handed_back(session, ran.refusal, next);
+    let ran = Session::from(session).run(nodes);
+    let given = handed_back(session, checks::number(ran.result), ran.session);
     repairs_for_c(ran, given)
 }
 
@@ -120,13 +141,18 @@ pub extern "C" fn mogtriz_run(session: MarkedSession, nodes: &mut [u8]) -> Repai
 pub extern "C" fn mogtriz_pairs(session: MarkedSession, node: usize) -> PairsAnswer
     ensures { result ≡ pairs_found_c session node }
 {
-    let found = session.session().pairs(node);
+    let found = Session::from(session).pairs(node);
+    let pairs = found.result.unwrap_or(Pairs {
+        smaller: 0,
+        larger: 0,
+        count: 0,
+    });
     PairsAnswer {
-        refusal: found.refusal,
-        smaller: found.smaller,
-        larger: found.larger,
-        count: found.count,
-        session: session,
+        refusal: checks::number(found.result),
+        smaller: pairs.smaller,
+        larger: pairs.larger,
+        count: pairs.count,
+        session,
     }
 }
 
@@ -135,12 +161,8 @@ pub extern "C" fn mogtriz_pairs(session: MarkedSession, node: usize) -> PairsAns
 pub extern "C" fn mogtriz_check_plan(session: MarkedSession, plan: &[u8]) -> PlanAnswer
     ensures { result ≡ plan_checked_c session plan.now }
 {
-    let checked = carrying::check_plan(session.session(), plan);
-    PlanAnswer {
-        refusal: checked.refusal,
-        bad: checked.bad,
-        session: session,
-    }
+    let checked = carrying::check_plan(Session::from(session), plan);
+    plan_for_c(checked, session)
 }
 
 // A plan made elsewhere, carried out on a nodes buffer where it is accepted.
@@ -153,12 +175,7 @@ pub extern "C" fn mogtriz_carry_plan(
     ensures value { result ≡ carried_c session plan.now nodes.old }
     ensures nodes_after { nodes.new ≡ nodes_carried (session_of_c session) plan.now nodes.old }
 {
-    let carried = carrying::carry_plan(session.session(), plan, nodes);
-    let next = carried.session;
-    let given = handed_back(session, carried.refusal, next);
-    PlanAnswer {
-        refusal: carried.refusal,
-        bad: carried.bad,
-        session: given,
-    }
+    let carried = carrying::carry_plan(Session::from(session), plan, nodes);
+    let given = handed_back(session, checks::number(carried.result), carried.session);
+    plan_for_c(carried, given)
 }

@@ -3,12 +3,15 @@
 // the session back as it came, byte for byte.
 ghost use Rattle.std.specs.Prelude.{◌≡◌, map};
 ghost use Rattle.mogtriz.specs.Sessions.{byte_of, mark_of, some_above1, session_for_c, session_of_c, started_c, length_c, written_c, live_listed_c, read_out_c, part_in};
-ghost use Rattle.repair.specs.Session.{started};
+ghost use Rattle.lists.specs.Lists.{none_live};
+ghost use Rattle.repair.specs.Answers.{started_as, written_as};
+ghost use Rattle.repair.specs.Session.{session_with, started};
 ghost use Rattle.repair.specs.Boxed.{checked_box, read_box, nodes_read, out_written};
 ghost use Rattle.repair.specs.LiveNodes.{out_listed};
 ghost use Rattle.repair.specs.ReadOut.{object_out};
 
-use repair::{Session, Written};
+use checks::Refusal;
+use repair::{Answer, Session};
 
 // C's mogtriz_session.
 #[repr(C)]
@@ -61,10 +64,7 @@ pub struct Part {
 fn byte_of(live: bool) -> u8
     ensures { result ≡ byte_of live }
 {
-    if live {
-        return 1;
-    }
-    0
+    u8::from(live)
 }
 
 // A byte for each mark: 1 live, 0 missing.
@@ -72,10 +72,8 @@ fn bytes_of(marks: [bool; 256]) -> [u8; 256]
     ensures { result ≡ map byte_of marks }
 {
     let mut bytes = [0u8; 256];
-    let mut j: usize = 0;
-    while j < 256 {
-        bytes[j] = byte_of(marks[j]);
-        j += 1;
+    for (j, live) in marks.iter().enumerate() {
+        bytes[j] = byte_of(*live);
     }
     bytes
 }
@@ -85,10 +83,8 @@ fn marks_of_bytes(bytes: [u8; 256]) -> [bool; 256]
     ensures { result ≡ map mark_of bytes }
 {
     let mut marks = [false; 256];
-    let mut j: usize = 0;
-    while j < 256 {
-        marks[j] = bytes[j] == 1;
-        j += 1;
+    for (j, byte) in bytes.iter().enumerate() {
+        marks[j] = *byte == 1;
     }
     marks
 }
@@ -98,10 +94,7 @@ fn some_above_1(bytes: [u8; 256]) -> bool
     ensures { result ≡ some_above1 bytes }
 {
     let mut above = false;
-    let mut j: usize = 0;
-    while j < 256 {
-        let byte = bytes[j];
-        j += 1;
+    for byte in bytes {
         if 1 < byte {
             above = true;
         }
@@ -109,62 +102,71 @@ fn some_above_1(bytes: [u8; 256]) -> bool
     above
 }
 
-impl MarkedSession {
-    // The session that C's is. For one with a byte above 1 stands the session of zeros, whose family is none, so that every call
-    // turns it away with 13.
-    pub fn session(self) -> Session
-        ensures { result ≡ session_of_c self }
-    {
-        let bytes = self.live;
+// The session of zeros, with every mark missing.
+fn no_session() -> Session
+    ensures { result ≡ session_with 0 0 0 none_live }
+{
+    Session {
+        family: 0,
+        k: 0,
+        len: 0,
+        steps: 0,
+        live: [false; 256],
+        reads: [0u16; 256],
+    }
+}
+
+// The session that C's is. For one with a byte above 1 stands the session of zeros, whose family is none, so that every call turns it
+// away with 13.
+impl From<MarkedSession> for Session {
+    ghost from_gives = { λ given session. session ≡ session_of_c given };
+
+    fn from(given: MarkedSession) -> Session {
+        let bytes = given.live;
         if some_above_1(bytes) {
-            return Session {
-                family: 0,
-                k: 0,
-                len: 0,
-                steps: 0,
-                live: [false; 256],
-                reads: [0u16; 256],
-            };
+            return no_session();
         }
         let live = marks_of_bytes(bytes);
-        let reads = self.reads;
+        let reads = given.reads;
         Session {
-            family: self.family,
-            k: self.k,
-            len: self.len,
-            steps: self.steps,
-            live: live,
-            reads: reads,
+            family: given.family,
+            k: given.k,
+            len: given.len,
+            steps: given.steps,
+            live,
+            reads,
         }
     }
 }
 
 // The session for C, its marks as bytes.
-pub fn marked(session: Session) -> MarkedSession
-    ensures { result ≡ session_for_c session }
-{
-    let marks = session.live;
-    let bytes = bytes_of(marks);
-    let reads = session.reads;
-    MarkedSession {
-        family: session.family,
-        k: session.k,
-        len: session.len,
-        steps: session.steps,
-        live: bytes,
-        reads: reads,
+impl From<Session> for MarkedSession {
+    ghost from_gives = { λ session given. given ≡ session_for_c session };
+
+    fn from(session: Session) -> MarkedSession {
+        let marks = session.live;
+        let live = bytes_of(marks);
+        let reads = session.reads;
+        MarkedSession {
+            family: session.family,
+            k: session.k,
+            len: session.len,
+            steps: session.steps,
+            live,
+            reads,
+        }
     }
 }
 
-// What a start or a box gives, for C.
-fn for_c(answer: repair::Started) -> StartAnswer
-    ensures { result ≡ started_c answer }
-{
-    let session = answer.session;
-    let given = marked(session);
-    StartAnswer {
-        refusal: answer.refusal,
-        session: given,
+// What a start or a box gives, for C: a refused one gives the session of zeros.
+impl From<Result<Session, Refusal>> for StartAnswer {
+    ghost from_gives = { λ given answer. answer ≡ started_c (started_as given) };
+
+    fn from(given: Result<Session, Refusal>) -> StartAnswer {
+        StartAnswer {
+            refusal: checks::number(given),
+            session: MarkedSession::from(given.unwrap_or(no_session())),
+        }
     }
 }
 
@@ -173,7 +175,7 @@ fn for_c(answer: repair::Started) -> StartAnswer
 pub extern "C" fn mogtriz_start(family: usize, k: usize, len: usize, list: &[u8]) -> StartAnswer
     ensures { result ≡ started_c (started family k len list.now) }
 {
-    for_c(Session::start(family, k, len, list))
+    StartAnswer::from(Session::start(family, k, len, list))
 }
 
 // A box checked alone.
@@ -181,7 +183,7 @@ pub extern "C" fn mogtriz_start(family: usize, k: usize, len: usize, list: &[u8]
 pub extern "C" fn mogtriz_check(bytes: &[u8]) -> StartAnswer
     ensures { result ≡ started_c (checked_box bytes.now) }
 {
-    for_c(Session::check(bytes))
+    StartAnswer::from(Session::check(bytes))
 }
 
 // A box read into a nodes buffer.
@@ -190,7 +192,7 @@ pub extern "C" fn mogtriz_read(bytes: &[u8], nodes: &mut [u8]) -> StartAnswer
     ensures value { result ≡ started_c (read_box bytes.now nodes.old) }
     ensures nodes_after { nodes.new ≡ nodes_read bytes.now nodes.old }
 {
-    for_c(Session::read(bytes, nodes))
+    StartAnswer::from(Session::read(bytes, nodes))
 }
 
 // The body of one node, as a part of the box.
@@ -198,31 +200,28 @@ pub extern "C" fn mogtriz_read(bytes: &[u8], nodes: &mut [u8]) -> StartAnswer
 pub extern "C" fn mogtriz_body(bytes: &[u8], node: usize) -> Part
     ensures { result ≡ part_in bytes.now node }
 {
-    let bad = boxes::body_refusal(bytes, node);
-    if bad != 0 {
+    if let Err(refusal) = boxes::check_body(bytes, node) {
         return Part {
-            refusal: bad,
+            refusal: u8::from(refusal),
             from: 0,
             length: 0,
         };
     }
-    let from = boxes::body_start(bytes, node);
-    let len = boxes::block_length(bytes);
     Part {
         refusal: 0,
-        from: from,
-        length: len,
+        from: boxes::body_start(bytes, node),
+        length: boxes::block_length(bytes),
     }
 }
 
 // The number of bytes written, with the session as handed in.
-fn length_for_c(answer: Written, session: MarkedSession) -> WriteAnswer
-    ensures { result ≡ length_c answer session }
+fn length_for_c(answer: Answer<usize>, session: MarkedSession) -> WriteAnswer
+    ensures { result ≡ length_c (written_as answer) session }
 {
     WriteAnswer {
-        refusal: answer.refusal,
-        length: answer.length,
-        session: session,
+        refusal: checks::number(answer.result),
+        length: answer.result.unwrap_or(0),
+        session,
     }
 }
 
@@ -237,7 +236,7 @@ pub extern "C" fn mogtriz_write(
     ensures value { result ≡ written_c session nodes.now list.now out.old }
     ensures out_after { out.new ≡ out_written (session_of_c session) nodes.now list.now out.old }
 {
-    let answer = session.session().write(nodes, list, out);
+    let answer = Session::from(session).write(nodes, list, out);
     length_for_c(answer, session)
 }
 
@@ -247,7 +246,7 @@ pub extern "C" fn mogtriz_live_nodes(session: MarkedSession, out: &mut [u8]) -> 
     ensures value { result ≡ live_listed_c session out.old }
     ensures out_after { out.new ≡ out_listed (session_of_c session) out.old }
 {
-    let answer = session.session().live_nodes(out);
+    let answer = Session::from(session).live_nodes(out);
     length_for_c(answer, session)
 }
 
@@ -261,10 +260,17 @@ pub extern "C" fn mogtriz_read_out(
     ensures value { result ≡ read_out_c session nodes.now object.old }
     ensures object_after { object.new ≡ object_out (session_of_c session) nodes.now object.old }
 {
-    let answer = session.session().read_out(nodes, object);
-    ReadOutAnswer {
-        refusal: answer.refusal,
-        block: answer.block,
-        session: session,
+    let answer = Session::from(session).read_out(nodes, object);
+    match answer.result {
+        Ok(()) => ReadOutAnswer {
+            refusal: 0,
+            block: 0,
+            session,
+        },
+        Err(refusal) => ReadOutAnswer {
+            refusal: u8::from(refusal),
+            block: refusal.block(),
+            session,
+        },
     }
 }

@@ -25,7 +25,8 @@ use Rattle.counts.specs.Counts.{no_counts, count_of, count_all, sum_of}
 use Rattle.lists.proofs.Laws.{those_few}
 use Rattle.counts.proofs.Laws.{count_times}
 use Rattle.pairing.specs.Pairs.{related_above, pair_count, most_pairs}
-use Rattle.pairing.specs.Inner.{third_node, thirds, with_third, live_partner, live_ends}
+use Rattle.families.specs.Inner.{third_node}
+use Rattle.pairing.specs.Inner.{thirds, with_third, live_partner, live_ends}
 use Rattle.pairing.proofs.MostLaws.{thirds_count, all_one}
 use Rattle.pairing.proofs.Thirds.{counted}
 use Rattle.pairing.proofs.PairLaws.{related_partner, partner_related}

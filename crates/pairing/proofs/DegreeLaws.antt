@@ -1,5 +1,6 @@
 -- Weight-two: the table of how many nodes of a list have each number, and how many missing nodes have a third node with node j by it.
 -- Assumes nothing.
+use Rattle.families.specs.Inner.{third_node, unit}
 use mathlib.Core.Path.{◌≡◌, refl, ap₂, ◌∙◌}
 use mathlib.Core.Bool.{Bool, true, false, cond}
 use mathlib.Core.List.{List, [], ◌∷◌, map}
@@ -19,7 +20,6 @@ use Rattle.base.proofs.Sums.{sum_same, sum_add, sum_only}
 use Rattle.families.specs.declared.Family.{Family}
 use Rattle.families.specs.declared.Family.TheVariants.{Simplex, WeightTwo, Tetrahedron}
 use Rattle.families.specs.Families.{KInRange, IsNode, node_count, column_of}
-use Rattle.families.specs.Inner.{unit}
 use Rattle.families.proofs.EdgeLaws.{smaller_within}
 use Rattle.families.proofs.PairLaws.{PairOf, pair_of}
 use Rattle.encoding.proofs.EndLaws.{alone, ends, ends_sum}
@@ -27,7 +27,7 @@ use Rattle.lists.specs.Lists.{some_outside}
 use Rattle.lists.proofs.Laws.{outside_both, nodes_inside}
 use Rattle.counts.specs.Counts.{count_of, one_more, count_all, sum_of}
 use Rattle.counts.proofs.Laws.{count_times, count_most, sum_one_most, sum_none}
-use Rattle.pairing.specs.Inner.{third_node, with_third, first_end, second_end, ends_of, no_degrees, degrees_of}
+use Rattle.pairing.specs.Inner.{with_third, first_end, second_end, ends_of, no_degrees, degrees_of}
 use Rattle.pairing.proofs.Thirds.{counted}
 use Rattle.pairing.proofs.EdgeThirds.{shared}
 use Rattle.pairing.proofs.CountLaws.{sum_those}

@@ -18,9 +18,6 @@ use Rattle.pairing.specs.Inner.{count_each}
 pub record Making (f : Family) (k : ℕ) (marks : List Bool) (nodes counts : List ℕ) (i : ℕ) : Type 0 where
   pub rest : count_each f k marks counts (drop i nodes) ≡ count_each f k marks no_counts nodes
 
-pub making_none : (f : Family) (k : ℕ) (marks : List Bool) (nodes : List ℕ) → Making f k marks nodes no_counts 0
-making_none f k marks nodes = record { rest = refl }
-
 module _ {f : Family} {k : ℕ} {marks : List Bool} {nodes counts : List ℕ} {i : ℕ} (w : Making f k marks nodes counts i) where
   pub making_more : {j count : ℕ} → i < length nodes → j ≡ get_or nodes i 0 → count ≡ pair_count f k marks j → Making f k marks nodes (set counts j count) (i + 1)
   unfolding count_each

@@ -18,10 +18,12 @@ use Rattle.families.specs.Families.{KInRange, IsNode, node_count}
 use Rattle.families.proofs.Laws.{few}
 use Rattle.counts.specs.Counts.{no_counts, count_of}
 use Rattle.pairing.specs.Pairs.{smaller_node, pair_count, pairs_among, pairs_of}
-use Rattle.pairing.specs.Inner.{count_each, next_found, found_at}
+use Rattle.pairing.specs.Inner.{count_each, next_found, found_at, found_in}
 use Rattle.pairing.proofs.EachLaws.{each_listed, each_other}
 use Rattle.pairing.proofs.NoneLaws.{some_count, none_count}
-use Rattle.pairing.proofs.SearchLaws.{is_found}
+use Rattle.pairing.proofs.SearchLaws.{is_found, found_none, found_some}
+use Rattle.pairing.specs.declared.Found.{Found}
+use Rattle.std.specs.Prelude.{None, Some}
 
 module _ (f : Family) (k : ℕ) (r : KInRange f k) (marks : List Bool) (j : ℕ) (nj : IsNode f k j) where
   abbrev counts : List ℕ
@@ -59,3 +61,14 @@ module _ (f : Family) (k : ℕ) (r : KInRange f k) (marks : List Bool) (j : ℕ)
           first_of (is_found f k marks counts) (suc (j - 1)) (node_count f k - (j - 1)) j (omega (arith, from)) (omega (arith, nj.first, nj.last))
           (and_both _ _ (lt-ltb 0 (count_of counts j) (omega (arith, own))) (lt-ltb 0 (smaller_node f k marks j) small)) (λ i l u. absurd (omega (arith, from))) in
           rw (found, ne_eqb j 0 (λ z. omega (arith, nj.first)), ne_eqb (smaller_node f k marks j) 0 (λ z. omega arith), own)
+
+  -- what the walk in which j alone is counted finds
+  pub alone_some : {x : Found} {own_counts : List ℕ} → own_counts ≡ counts → Some x ≡ found_in f k marks own_counts (next_found f k marks own_counts (j - 1)) → x.pairs ≡ pairs_of f k marks j
+  alone_some {x} {own_counts} c e =
+      ap (λ (y : Found). y.pairs) (found_some f k marks own_counts (next_found f k marks own_counts (j - 1)) e).0 ∙ rw c found_alone
+
+  pub alone_none : {own_counts : List ℕ} → own_counts ≡ counts → None ≡ found_in f k marks own_counts (next_found f k marks own_counts (j - 1)) → record { smaller = 0; larger = 0; count = 0 } ≡ pairs_of f k marks j
+  unfolding found_at
+  alone_none {own_counts} c e =
+      let z : next_found f k marks counts (j - 1) ≡ 0 = rw (← c) (found_none f k marks own_counts (next_found f k marks own_counts (j - 1)) e) in
+      (rw z at found_alone)

@@ -19,14 +19,13 @@ use Rattle.base.specs.Ranges.{first_from, those_from}
 use Rattle.base.proofs.Tests.{and_left, and_right, and_both, is_false}
 use Rattle.base.proofs.Xor.{xor_third, xor_third_of}
 use Rattle.families.specs.declared.Family.{Family}
-use Rattle.families.specs.Families.{KInRange, IsNode, node_count, column_of, node_of, are_related}
-use Rattle.families.specs.Inner.{column_table}
+use Rattle.families.specs.Families.{KInRange, IsNode, node_count, column_of, are_related}
 use Rattle.base.proofs.First.{first_of, first_none, first_least, found}
 use Rattle.families.proofs.Laws.{few, node_is, node_of_lem, related_differ, related_turn, related_swap}
-use Rattle.families.proofs.TableLaws.{table_at}
 use Rattle.lists.specs.Lists.{is_live, live_nodes}
 use Rattle.pairing.specs.Pairs.{larger_node, smaller_node, pair_count, pairs_among, LiveNode}
-use Rattle.pairing.specs.Inner.{third_node, live_partner}
+use Rattle.families.specs.Inner.{third_node}
+use Rattle.pairing.specs.Inner.{live_partner}
 
 -- ---- the node related to two others
 
@@ -43,11 +42,6 @@ module _ (f : Family) (k : ℕ) (r : KInRange f k) (marks : List Bool) (j a : �
   -- the only node that can be related to a and j
   abbrev pub partner : ℕ
   partner = third_node f k j a
-
-  -- as it is found in the table of columns
-  pub partner_at : {columns : List ℕ} {b : ℕ} → IsNode f k j → IsNode f k a → columns ≡ column_table f k
-      → b ≡ node_of f k (bit_xor (get_or columns j 0) (get_or columns a 0)) → b ≡ partner
-  partner_at nj na e g = g ∙ rw (e, table_at f k j r nj, table_at f k a r na)
 
   pub related_partner : (b : ℕ) → IsNode f k b → are_related f k a b j ≡ true → partner ≡ b
   unfolding are_related
@@ -289,22 +283,22 @@ module _ (f : Family) (k : ℕ) (marks : List Bool) (j : ℕ) where
       go (no c) (yes l) = (smaller_least b a lb la l (related_swap f k a b j h)).0
       go (no c) (no d) = absurd (related_differ f k r a b j n h (omega arith))
 
--- ---- the next number that passes a test
+-- ---- the next number that passes a test, of those from j to n
 
 module _ (test : ℕ → Bool) (n j : ℕ) where
-  left : j < n → n - j ≡ suc (n - (j + 1))
+  left : j ≤ n → n + 1 - j ≡ suc (n + 1 - (j + 1))
   left h = omega arith
 
-  pub next_skip : j < n → test (j + 1) ≡ false → first_from test (suc j) (n - j) ≡ first_from test (suc (j + 1)) (n - (j + 1))
+  pub next_skip : j ≤ n → test j ≡ false → first_from test j (n + 1 - j) ≡ first_from test (j + 1) (n + 1 - (j + 1))
   unfolding first_from
-  next_skip h e = ap (first_from test (suc j)) (left h) ∙ rw (← add-one j, e)
+  next_skip h e = ap (first_from test j) (left h) ∙ rw (add-one j, e)
 
-  pub next_is : j < n → test (j + 1) ≡ true → first_from test (suc j) (n - j) ≡ j + 1
+  pub next_is : j ≤ n → test j ≡ true → first_from test j (n + 1 - j) ≡ j
   unfolding first_from
-  next_is h e = ap (first_from test (suc j)) (left h) ∙ rw (← add-one j, e)
+  next_is h e = ap (first_from test j) (left h) ∙ rw e
 
-  pub next_end : n ≤ j → first_from test (suc j) (n - j) ≡ 0
+  pub next_end : n < j → first_from test j (n + 1 - j) ≡ 0
   unfolding first_from
   next_end h =
-      let e : n - j ≡ 0 = omega arith in
-      ap (first_from test (suc j)) e
+      let e : n + 1 - j ≡ 0 = omega arith in
+      ap (first_from test j) e

@@ -1,7 +1,7 @@
 -- How far the table of pairs within a list has come: each pair counts for the node that is related to both.
 -- Assumes nothing.
 use mathlib.Core.Path.{◌≡◌, refl, sym, ap, ◌∙◌}
-use mathlib.Core.Bool.{Bool, true, false, cond, not}
+use mathlib.Core.Bool.{cond, not}
 use mathlib.Core.List.{List, map}
 use Prim.Native.Nat.{ℕ, zero, suc, ◌+◌, ◌*◌, ◌≤◌, ◌<◌}
 use native.Mathlib.Numerals.{add-one}
@@ -14,33 +14,26 @@ use mir.Val.{bool_byte}
 use Rattle.families.specs.declared.Family.{Family}
 use Rattle.counts.specs.Counts.{no_counts, count_of, one_more, count_all, sum_of}
 use Rattle.counts.proofs.Laws.{count_append, count_most, sum_one_most, sum_all_most, sum_none}
-use Rattle.pairing.specs.Inner.{third_node, thirds}
+use Rattle.families.specs.Inner.{third_node}
+use Rattle.pairing.specs.Inner.{thirds}
 
--- what is left to be counted for a, from place `next` of the list on
-pub record Counting (f : Family) (k : ℕ) (list : List ℕ) (a i : ℕ) (before now : List ℕ) (next : ℕ) : Type 0 where
-  pub after : i < next
-  pub rest : count_all now (map (third_node f k a) (drop next list)) ≡ count_all before (map (third_node f k a) (drop (i + 1) list))
+-- what is left to be counted for a, from place i of the list on
+pub record Counting (f : Family) (k : ℕ) (list : List ℕ) (a : ℕ) (before now : List ℕ) (i : ℕ) : Type 0 where
+  pub rest : count_all now (map (third_node f k a) (drop i list)) ≡ count_all before (map (third_node f k a) list)
   -- so that every count fits 16 bits
-  pub few : sum_of now + length list ≤ 65535 + next
+  pub few : sum_of now + length list ≤ 65535 + i
 
-pub counting_none : (f : Family) (k : ℕ) (list : List ℕ) (a i : ℕ) (before : List ℕ) → sum_of before + length list ≤ 65535 → Counting f k list a i before before (i + 1)
-counting_none f k list a i before h = record { after = omega arith; rest = refl; few = omega arith }
-
-module _ {f : Family} {k : ℕ} {list : List ℕ} {a i : ℕ} {before now : List ℕ} {next : ℕ} (w : Counting f k list a i before now next) where
-  pub counting_more : (third : ℕ) → next < length list → third ≡ third_node f k a (get_or list next 0) → Counting f k list a i before (one_more now third) (next + 1)
+module _ {f : Family} {k : ℕ} {list : List ℕ} {a : ℕ} {before now : List ℕ} {i : ℕ} (w : Counting f k list a before now i) where
+  pub counting_more : (third : ℕ) → i < length list → third ≡ third_node f k a (get_or list i 0) → Counting f k list a before (one_more now third) (i + 1)
   unfolding count_all
   counting_more third h e =
-      record {
-        after = omega (arith, w.after);
-        rest = rw (e, add-one next) (rw (drop-cons list next 0 h) at w.rest);
-        few = omega (arith, w.few, sum_one_most now third);
-      }
+      record { rest = rw (e, add-one i) (rw (drop-cons list i 0 h) at w.rest); few = omega (arith, w.few, sum_one_most now third) }
 
   -- no count is the most that 16 bits hold
-  pub counting_fits : next < length list → (j : ℕ) → count_of now j < 65535
+  pub counting_fits : i < length list → (j : ℕ) → count_of now j < 65535
   counting_fits h j = omega (arith, w.few, count_most now j)
 
-  pub counting_done : length list ≤ next → now ≡ count_all before (map (third_node f k a) (drop (i + 1) list))
+  pub counting_done : length list ≤ i → now ≡ count_all before (map (third_node f k a) list)
   unfolding count_all
   counting_done h = rw (drop_of_length-le list h) at w.rest
 
@@ -78,9 +71,6 @@ pub record Seeing (rule : ℕ → ℕ) (list : List ℕ) (count i : ℕ) : Type 
   pub rest : count + with_other rule (drop i list) ≡ with_other rule list
   pub few : count ≤ i
 
-pub seeing_none : (rule : ℕ → ℕ) (list : List ℕ) → Seeing rule list 0 0
-seeing_none rule list = record { rest = omega arith; few = omega arith }
-
 module _ {rule : ℕ → ℕ} {list : List ℕ} {count i : ℕ} (w : Seeing rule list count i) where
   pub seeing_more : (other : ℕ) → i < length list → other ≡ rule (get_or list i 0) → Seeing rule list (count + bool_byte (not (eqb other 0))) (i + 1)
   unfolding sum_of
@@ -96,8 +86,3 @@ module _ {rule : ℕ → ℕ} {list : List ℕ} {count i : ℕ} (w : Seeing rule
   pub seeing_done : length list ≤ i → count ≡ with_other rule list
   unfolding sum_of
   seeing_done h = omega (arith, rw (drop_of_length-le list h) at w.rest)
-
--- a number of one bit
-pub bit_most : (b : Bool) → bool_byte b ≤ 1
-bit_most true = omega arith
-bit_most false = omega arith

@@ -1,20 +1,17 @@
--- For inner functions: third nodes, the numbers of weight-two's nodes, what a search goes by, the counts that it is handed, and what it finds.
-use Rattle.std.specs.Prelude.{◌≡◌, Bool, cond, ◌&&◌, List, [], ◌∷◌, ◌++◌, map, ℕ, suc, ◌+◌, ◌-◌, ◌^◌, eqb, ltb, set, replicate}
-use Rattle.std.specs.Int.Bits.{bit_xor}
+-- For inner functions: third nodes, the numbers of weight-two's nodes, the counts that a search is handed and what they are made by, and what it finds.
+use Rattle.std.specs.Prelude.{◌≡◌, Option, None, Some, Bool, cond, ◌&&◌, List, [], ◌∷◌, ◌++◌, map, ℕ, suc, ◌+◌, ◌-◌, ◌^◌, eqb, ltb, set, replicate}
 use Rattle.std.specs.Int.Count.{count_trailing_zeros}
 use Rattle.base.specs.Ranges.{first_from}
 use Rattle.families.specs.declared.Family.{Family}
 use Rattle.families.specs.declared.Family.TheVariants.{Simplex, WeightTwo, Tetrahedron}
-use Rattle.families.specs.Families.{KInRange, node_count, column_of, node_of}
-use Rattle.families.specs.Inner.{column_table}
-use Rattle.lists.specs.Lists.{is_live, live_nodes}
-use Rattle.counts.specs.Counts.{count_of, count_all, sum_of}
+use Rattle.families.specs.Families.{node_count, column_of}
+use Rattle.families.specs.Inner.{third_node}
+use Rattle.lists.specs.Lists.{is_live, live_nodes, missing_nodes}
+use Rattle.counts.specs.Counts.{no_counts, count_of, count_all, sum_of}
 use Rattle.pairing.specs.Pairs.{larger_node, smaller_node, pair_count}
 use Rattle.pairing.specs.declared.Found.{Found}
-
--- the node related to two others; 0 where there is none
-abbrev pub third_node : Family → ℕ → ℕ → ℕ → ℕ
-third_node f k a b = node_of f k (bit_xor (column_of f k a) (column_of f k b))
+use Rattle.pairing.specs.declared.count.Tally.{Tally}
+use Rattle.pairing.specs.declared.count.Tally.TheVariants.{Live, Missing}
 
 -- that of a and j, where it is live; 0 where there is none
 unfoldable pub live_partner : Family → ℕ → List Bool → ℕ → ℕ → ℕ
@@ -56,12 +53,6 @@ degrees_of Simplex k list = no_degrees
 degrees_of WeightTwo k list = count_all no_degrees (ends_of k list)
 degrees_of Tetrahedron k list = no_degrees
 
--- what a search goes by: the columns by node number, and the list of the nodes of marks, be they the live ones or those that may be read
-pub record SearchBegins (f : Family) (k : ℕ) (columns live : List ℕ) (marks : List Bool) : Type 0 where
-  pub range : KInRange f k
-  pub table : columns ≡ column_table f k
-  pub nodes : live ≡ live_nodes marks (node_count f k)
-
 -- counts in which each node of a list has its own
 unfoldable pub count_each : Family → ℕ → List Bool → List ℕ → List ℕ → List ℕ
 count_each f k marks counts [] = counts
@@ -76,3 +67,12 @@ unfoldable pub found_at : Family → ℕ → List Bool → List ℕ → ℕ → 
 found_at f k free counts j =
     let a = smaller_node f k free j in
     cond (eqb j 0) (record { node = 0; pairs = record { smaller = 0; larger = 0; count = 0 } }) (record { node = j; pairs = record { smaller = a; larger = larger_node f k free j a; count = count_of counts j } })
+
+-- the node that is found, with its pair; none for node 0
+unfoldable pub found_in : Family → ℕ → List Bool → List ℕ → ℕ → Option Found
+found_in f k free counts j = cond (eqb j 0) None (Some (found_at f k free counts j))
+
+-- a tally of the live nodes counts the pairs within them; one of the missing nodes those within these, and each number of weight-two
+abbrev pub Tallies : Family → ℕ → List Bool → Tally → Type 0
+Tallies f k marks (Live table) = table ≡ count_all no_counts (thirds f k (live_nodes marks (node_count f k)))
+Tallies f k marks (Missing table degrees) = let missing = missing_nodes marks (node_count f k) in (table ≡ count_all no_counts (thirds f k missing)) × (degrees ≡ degrees_of f k missing)

@@ -1,28 +1,17 @@
 // The other node of a pair.
 ghost use Rattle.std.specs.Prelude.{◌≡◌};
-ghost use Rattle.families.specs.Families.{KInRange, IsNode};
-ghost use Rattle.families.specs.Inner.{column_table};
+ghost use Rattle.families.specs.Families.{IsNode};
+ghost use Rattle.families.specs.Inner.{third_node};
 ghost use Rattle.pairing.specs.Inner.{live_partner};
 
-use families::Family;
+use families::Columns;
 
-// The node related to a and j, where it is live, or 0. Whether it is above a need not be asked: first members go upward, and a
-// live node below a with a as its partner would have been found before.
-pub fn live_partner(
-    family: Family,
-    k: usize,
-    columns: &[usize; 256],
-    marks: &[bool; 256],
-    j: usize,
-    a: usize,
-) -> usize
-    requires kin_range { KInRange family k × IsNode family k j × IsNode family k a }
-    requires columns_value { columns.now ≡ column_table family k }
-    ensures { result ≡ live_partner family k marks.now j a }
+// The node related to a and j, where it is live, or 0: by the clause it is `live_partner`, whose definition gives 0. Whether it is
+// above a need not be asked: first members go upward, and a live node below a with a as its partner would have been found before.
+pub fn live_partner(columns: &Columns, marks: &[bool; 256], j: usize, a: usize) -> usize
+    requires { IsNode columns.now.code.family columns.now.code.k j × IsNode columns.now.code.family columns.now.code.k a }
+    ensures { result ≡ live_partner columns.now.code.family columns.now.code.k marks.now j a }
 {
-    let b = families::third_node(family, k, columns[j], columns[a]);
-    if !marks[b] {
-        return 0;
-    }
-    b
+    let b = columns.third_node(j, a);
+    if marks[b] { b } else { 0 }
 }

@@ -1,4 +1,3 @@
-pub mod Steps
 pub mod MakeLaws
 pub mod RoundLaws
 pub mod ReadLaws

@@ -25,9 +25,11 @@ use Rattle.lists.specs.Lists.{missing_nodes, is_live, set_live, live_nodes}
 use Rattle.lists.proofs.MarkLaws.{live_append}
 use Rattle.lists.proofs.WithoutLaws.{unset_live}
 use Rattle.counts.specs.Counts.{no_counts, count_of}
+use Rattle.std.specs.Prelude.{Option, None, Some}
 use Rattle.pairing.specs.declared.Found.{Found}
+use Rattle.pairing.proofs.SearchLaws.{found_none, found_some}
 use Rattle.pairing.specs.Pairs.{larger_node, smaller_node, pair_count, LiveNode}
-use Rattle.pairing.specs.Inner.{count_each, next_found, found_at}
+use Rattle.pairing.specs.Inner.{count_each, next_found, found_at, found_in}
 use Rattle.pairing.proofs.PairLaws.{pair_of, pairs_are, smaller_some}
 use Rattle.pairing.proofs.ListedLaws.{missing_count}
 use Rattle.pairing.proofs.EachLaws.{each_listed, each_other}
@@ -103,8 +105,8 @@ module _ (f : Family) (k : ℕ) (range : KInRange f k) (marks free : List Bool) 
       first_same (is_found f k free (missing_counts f k marks)) (is_repaired f k marks free) (suc after) (node_count f k - after)
       (λ i l u. found_is i (record { first = omega arith; last = omega arith }))
 
-  pub found_next : {counts : List ℕ} {x : Found} (after : ℕ) → after ≤ node_count f k → counts ≡ missing_counts f k marks → x ≡ found_at f k free counts (next_found f k free counts after)
-      → x ≡ found_at f k free (missing_counts f k marks) (first_from (is_repaired f k marks free) (suc after) (node_count f k - after))
+  pub found_next : {counts : List ℕ} {x : Option Found} (after : ℕ) → after ≤ node_count f k → counts ≡ missing_counts f k marks → x ≡ found_in f k free counts (next_found f k free counts after)
+      → x ≡ found_in f k free (missing_counts f k marks) (first_from (is_repaired f k marks free) (suc after) (node_count f k - after))
   found_next after h e g = g ∙ rw (e, found_repaired after h)
 
 -- ---- the next repair
@@ -162,30 +164,26 @@ pub record Next (f : Family) (k : ℕ) (marks : List Bool) (r : ℕ) (free : Lis
   pub larger_node : LiveNode f k free x.pairs.larger
   pub steps : steps_above f k marks r free node ≡ as_step f k marks r free x ∷ steps_above f k marks r (set (set free x.pairs.smaller false) x.pairs.larger false) x.node
 
-module _ (f : Family) (k : ℕ) (marks : List Bool) (r : ℕ) (free : List Bool) (counts : List ℕ) (node : ℕ) (x : Found)
-    (e : x ≡ found_at f k free counts (first_from (is_repaired f k marks free) (suc node) (node_count f k - node))) where
+module _ (f : Family) (k : ℕ) (marks : List Bool) (r : ℕ) (free : List Bool) (counts : List ℕ) (node : ℕ) where
   abbrev j : ℕ
   j = first_from (is_repaired f k marks free) (suc node) (node_count f k - node)
 
   rest : Rest once f k marks r free (suc node) (node_count f k - node)
   rest = rest_is once f k marks r free (suc node) (node_count f k - node) (omega arith)
 
-  pub next_none : x.node ≡ 0 → steps_above f k marks r free node ≡ []
-  unfolding found_at
-  next_none z = rest.none (go (eq-zero-or-pos j))
-    where
-      go : (j ≡ 0) ⊎ (0 < j) → j ≡ 0
-      go (inl g) = g
-      go (inr g) =
-          let is : x.node ≡ j = ap (λ (y : Found). y.node) e ∙ simp (ne_eqb j 0 (λ y. omega arith)) in
-          sym is ∙ z
+  -- none is found: there is no step
+  pub next_none : None ≡ found_in f k free counts j → steps_above f k marks r free node ≡ []
+  next_none e = rest.none (found_none f k free counts j e)
 
-  pub next_some : KInRange f k → node ≤ node_count f k → (x.node ≡ 0 → ⊥) → Next f k marks r free node x
+  pub next_some : {x : Found} → Some x ≡ found_in f k free counts j → KInRange f k → node ≤ node_count f k → Next f k marks r free node x
   unfolding found_at once
-  next_some range h ne = go (eq-zero-or-pos j)
+  next_some {x} some range h = go (eq-zero-or-pos j)
     where
+      e : x ≡ found_at f k free counts j
+      e = (found_some f k free counts j some).0
+
       go : (j ≡ 0) ⊎ (0 < j) → Next f k marks r free node x
-      go (inl g) = absurd (ne (ap (λ (y : Found). y.node) e ∙ rw g))
+      go (inl g) = absurd ((found_some f k free counts j some).1 g)
       go (inr g) =
           let a = smaller_node f k free j in
           let is : x ≡ record { node = j; pairs = record { smaller = a; larger = larger_node f k free j a; count = count_of counts j } } = e ∙ simp (ne_eqb j 0 (λ y. omega arith)) in

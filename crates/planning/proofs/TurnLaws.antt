@@ -13,14 +13,13 @@ use borrow.Author.Tests.{lt-ltb, le-ltb, not-true}
 use lib.Dec.{ltb}
 use Rattle.base.specs.Ranges.{those_from}
 use Rattle.base.proofs.RangeLaws.{Passing, those_are}
-use Rattle.base.proofs.Tests.{and_both, not_both}
+use Rattle.base.proofs.Tests.{not_both}
 use Rattle.families.specs.declared.Family.{Family}
 use Rattle.families.specs.Families.{KInRange, IsNode, node_count}
 use Rattle.lists.specs.Lists.{is_live, missing_nodes, rises}
 use Rattle.lists.proofs.Laws.{rises_cons}
 use Rattle.pairing.specs.declared.Pairs.{Pairs}
 use Rattle.pairing.specs.Pairs.{larger_node, smaller_node}
-use Rattle.pairing.specs.Claims.{IsPair}
 use Rattle.pairing.proofs.PairLaws.{pair_of, pairs_are, among_smaller, smaller_least}
 use Rattle.planning.specs.Claims.{FreePair, RoundClaims}
 use Rattle.planning.specs.Plan.{Step, step_of, Reading, once, steps_for, round_steps, free_after, repaired_nodes, times_read, before_node}

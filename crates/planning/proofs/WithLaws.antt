@@ -1,6 +1,6 @@
 -- The steps of a list that pass a test.
 -- Assumes nothing.
-use mathlib.Core.Path.{◌≡◌, refl, ap, ◌∙◌}
+use mathlib.Core.Path.{◌≡◌, refl, ap}
 use mathlib.Core.Bool.{Bool, true, false, cond}
 use mathlib.Core.List.{List, Memᴰ, [], ◌∷◌, ◌++◌}
 use Rattle.planning.specs.Plan.{Step, steps_with}

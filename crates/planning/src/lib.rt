@@ -5,7 +5,7 @@ pub mod carry;
 pub mod rounds;
 
 // What a plan comes to, and the marks once its steps are made.
-#[derive(Clone, Copy)]
+#[derive(Clone, Copy, Debug, PartialEq, Eq)]
 pub struct Planned {
     pub steps: usize,
     pub rounds: usize,

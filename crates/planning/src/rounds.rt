@@ -1,28 +1,30 @@
 // Rounds, and the plan.
 ghost use Rattle.std.specs.Prelude.{◌≡◌, true, false, [], ◌∷◌, ◌++◌, ◌+◌, ◌-◌, ◌*◌, ◌≤◌, ◌<◌, length, set, take, drop};
 ghost use borrow.Rule.Slice.PartMut.{put_mid};
-ghost use Rattle.families.specs.Families.{KInRange, node_count};
-ghost use Rattle.families.specs.Inner.{column_table};
+ghost use Rattle.families.specs.Families.{node_count};
 ghost use Rattle.lists.specs.Lists.{is_live, live_nodes};
 ghost use Rattle.planning.specs.Plan.{once, round_steps, marks_after, plan_of, step_bytes};
 ghost use Rattle.planning.specs.Inner.{planned_of};
 
 use crate::Planned;
-use families::Family;
-use pairing::Found;
+use families::{Code, Columns};
 use pairing::count::count_missing;
 use pairing::search::find_next;
+use pairing::{Found, NodeSet};
 
-// A step as its four bytes.
+// A step as its four bytes. `as`: they fit by the clause; `try_from` would add a case with no answer.
 fn put_step(out: &mut [u8], round: usize, found: Found)
     requires out_len { length out.old ≡ 4 }
     requires round_bound { (round < 256) × (found.node < 256) × (found.pairs.smaller < 256) × (found.pairs.larger < 256) }
     ensures { out.new ≡ round ∷ found.node ∷ found.pairs.smaller ∷ found.pairs.larger ∷ [] }
 {
-    out[0] = round as u8;
-    out[1] = found.node as u8;
-    out[2] = found.pairs.smaller as u8;
-    out[3] = found.pairs.larger as u8;
+    let pairs = found.pairs;
+    out.copy_from_slice(&[
+        round as u8,
+        found.node as u8,
+        pairs.smaller as u8,
+        pairs.larger as u8,
+    ]);
 }
 
 // A node is read: it is free no more, and goes from the list of the free ones, where as many stand before it as are free below it.
@@ -53,41 +55,45 @@ fn read_pair(list: &mut [u8], free: &mut [bool; 256], n: usize, smaller: usize, 
 // begins. Gives how many they are. A node is free until it is read: `list` has the free ones. With every missing node repaired there is
 // nothing more to read.
 fn plan_round(
-    family: Family,
-    k: usize,
-    columns: &[usize; 256],
+    columns: &Columns,
     marks: &[bool; 256],
     round: usize,
     out: &mut [u8],
     from: usize,
     next: &mut [bool; 256],
 ) -> usize
-    requires kin_range { KInRange family k × (columns.now ≡ column_table family k) }
-    requires round_bound { round + length (round_steps once family k marks.now round) ≤ 256 }
-    requires round_in_bounds { from + 4 * length (round_steps once family k marks.now round) ≤ length out.old }
-    ensures value { result ≡ length (round_steps once family k marks.now round) }
-    ensures out_after { out.new ≡ put_mid from (4 * length (round_steps once family k marks.now round)) out.old (step_bytes (round_steps once family k marks.now round)) }
-    ensures next_after { next.new ≡ marks_after next.old (round_steps once family k marks.now round) }
+    requires round_bound { round + length (round_steps once columns.now.code.family columns.now.code.k marks.now round) ≤ 256 }
+    requires round_in_bounds { from + 4 * length (round_steps once columns.now.code.family columns.now.code.k marks.now round) ≤ length out.old }
+    ensures value { result ≡ length (round_steps once columns.now.code.family columns.now.code.k marks.now round) }
+    ensures out_after { out.new ≡ put_mid from (4 * length (round_steps once columns.now.code.family columns.now.code.k marks.now round)) out.old (step_bytes (round_steps once columns.now.code.family columns.now.code.k marks.now round)) }
+    ensures next_after { next.new ≡ marks_after next.old (round_steps once columns.now.code.family columns.now.code.k marks.now round) }
 {
-    let n = families::node_count(family, k);
+    let n = columns.code.node_count();
     let mut count = lists::count_live(marks, n);
-    if count == n {
-        return 0;
-    }
-    if count < 2 {
+    if count == n || count < 2 {
         return 0;
     }
     let missing = n - count;
     let mut list = lists::list_live(marks, n);
-    let counts = count_missing(family, k, columns, &list[..count], marks);
     let mut free = *marks;
+    let counts = count_missing(NodeSet {
+        columns,
+        marks,
+        list: &list[..count],
+    });
     let mut steps: usize = 0;
     let mut node: usize = 0;
+    // Each turn reads two of the nodes that are still free, so this is no count of turns.
     while 1 < count {
-        let found = find_next(family, k, columns, &list[..count], &free, &counts, node);
-        if found.node == 0 {
-            return steps;
-        }
+        let readable = NodeSet {
+            columns,
+            marks: &free,
+            list: &list[..count],
+        };
+        let found = match find_next(readable, &counts, node) {
+            Some(found) => found,
+            None => return steps,
+        };
         let at = from + 4 * steps;
         put_step(&mut out[at..at + 4], round, found);
         node = found.node;
@@ -104,28 +110,20 @@ fn plan_round(
 }
 
 // The plan from the marks, put into `out`, which has room for a step for each node.
-pub fn make_plan(family: Family, k: usize, live: [bool; 256], out: &mut [u8]) -> Planned
-    requires { KInRange family k × (4 * node_count family k ≤ length out.old) }
-    ensures value { result ≡ planned_of family k live }
-    ensures out_after { out.new ≡ step_bytes (plan_of family k live) ++ drop (4 * length (plan_of family k live)) out.old }
+pub fn make_plan(code: Code, live: [bool; 256], out: &mut [u8]) -> Planned
+    requires { 4 * node_count code.family code.k ≤ length out.old }
+    ensures value { result ≡ planned_of code.family code.k live }
+    ensures out_after { out.new ≡ step_bytes (plan_of code.family code.k live) ++ drop (4 * length (plan_of code.family code.k live)) out.old }
 {
-    let n = families::node_count(family, k);
-    let columns = families::columns(family, k);
+    let n = code.node_count();
+    let columns = Columns::new(code);
     let mut marks = live;
     let mut steps: usize = 0;
     let mut rounds: usize = 0;
+    // How many rounds there are is known only once one makes nothing.
     loop {
         let mut next = marks;
-        let made = plan_round(
-            family,
-            k,
-            &columns,
-            &marks,
-            rounds + 1,
-            out,
-            4 * steps,
-            &mut next,
-        );
+        let made = plan_round(&columns, &marks, rounds + 1, out, 4 * steps, &mut next);
         if made == 0 {
             break;
         }
@@ -135,8 +133,8 @@ pub fn make_plan(family: Family, k: usize, live: [bool; 256], out: &mut [u8]) ->
     }
     let live_count = lists::count_live(&marks, n);
     Planned {
-        steps: steps,
-        rounds: rounds,
+        steps,
+        rounds,
         left: n - live_count,
         live: marks,
     }

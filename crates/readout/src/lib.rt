@@ -2,45 +2,40 @@
 #![tactic(auto)]
 
 ghost use Rattle.std.specs.Prelude.{◌≡◌, ◌*◌, ◌≤◌, length};
-ghost use Rattle.families.specs.Families.{KInRange, node_count};
+ghost use Rattle.base.specs.Numbers.{numbered};
+ghost use Rattle.families.specs.Families.{node_count};
 ghost use Rattle.readout.specs.DataBlocks.{data_node, missing_block, data_blocks};
 
-use families::Family;
+use families::Code;
 
 // The node of data block i.
-fn data_node(family: Family, k: usize, i: usize) -> usize
-    requires { KInRange family k × (1 ≤ i) × (i ≤ k) }
-    ensures { (result ≡ data_node family k i) × (1 ≤ result) × (result ≤ node_count family k) }
+fn data_node(code: Code, i: usize) -> usize
+    requires { (1 ≤ i) × (i ≤ code.k) }
+    ensures { (result ≡ data_node code.family code.k i) × (1 ≤ result) × (result ≤ node_count code.family code.k) }
 {
-    families::node_of(family, k, base::power(i - 1))
+    code.node_of(base::power(i - 1))
 }
 
-// The lowest data block whose node is missing, or 0.
-pub fn missing_block(family: Family, k: usize, marks: &[bool; 256]) -> usize
-    requires { KInRange family k }
-    ensures { result ≡ missing_block family k marks.now }
+// The lowest data block whose node is missing, if one is.
+pub fn missing_block(code: Code, marks: &[bool; 256]) -> Option<usize>
+    ensures { result ≡ numbered (missing_block code.family code.k marks.now) }
 {
-    let mut i: usize = 1;
-    while i <= k {
-        let j = data_node(family, k, i);
+    for i in 1..code.k + 1 {
+        let j = data_node(code, i);
         if !marks[j] {
-            return i;
+            return Some(i);
         }
-        i += 1;
     }
-    0
+    None
 }
 
 // The object becomes the k data blocks of the nodes buffer.
-pub fn copy_data_blocks(family: Family, k: usize, len: usize, nodes: &[u8], object: &mut [u8])
-    requires kin_range { KInRange family k }
-    requires nodes_len { (length nodes.now ≡ node_count family k * len) × (length object.old ≡ k * len) }
-    ensures { object.new ≡ data_blocks family k len nodes.now k }
+pub fn copy_data_blocks(code: Code, len: usize, nodes: &[u8], object: &mut [u8])
+    requires { (length nodes.now ≡ node_count code.family code.k * len) × (length object.old ≡ code.k * len) }
+    ensures { object.new ≡ data_blocks code.family code.k len nodes.now code.k }
 {
-    let mut i: usize = 1;
-    while i <= k {
-        let j = data_node(family, k, i);
+    for i in 1..code.k + 1 {
+        let j = data_node(code, i);
         blocks::copy_between(len, nodes, j, object, i);
-        i += 1;
     }
 }

@@ -3,11 +3,9 @@
 
 fn main(rt: HostRuntime) {
     let mut input = listing::input_room();
-    let read = stdio::read_input(&rt, &mut input);
-    if read.failed {
+    let Ok(count) = stdio::read_input(&rt, &mut input) else {
         return;
-    }
-    let count = read.count;
+    };
     let mut out = io::large_buffer();
     let size = refilling::refill(&input[..count], &mut out);
     stdio::print(&rt, &out[..size]);

@@ -14,7 +14,7 @@ use Rattle.checks.proofs.Laws.{bytes_most}
 use Rattle.boxes.specs.Box.{family_in, k_in, block_length_in, node_count_in, box_length}
 use Rattle.boxes.specs.Claims.{AcceptedBox}
 use Rattle.repair.specs.declared.Session.{Session}
-use Rattle.repair.specs.declared.Started.{Started}
+use Rattle.repair.specs.Answers.{Started}
 use Rattle.repair.specs.Session.{node_count_of}
 use Rattle.repair.specs.Boxed.{session_in, checked_box, read_box, nodes_read}
 use Rattle.repair.specs.LiveNodes.{live_listed}

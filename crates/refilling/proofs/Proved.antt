@@ -18,9 +18,7 @@ use Rattle.boxes.specs.Claims.{Named}
 use Rattle.boxes.proofs.Proved.{box_claim, body_claim}
 use Rattle.leftover.specs.Open.{Open}
 use Rattle.repair.specs.declared.Session.{Session}
-use Rattle.repair.specs.declared.Started.{Started}
-use Rattle.repair.specs.declared.Written.{Written}
-use Rattle.repair.specs.declared.Repairs.{Repairs}
+use Rattle.repair.specs.Answers.{Started, Written, Repairs}
 use Rattle.repair.specs.Session.{afresh, node_count_of, unsound}
 use Rattle.repair.specs.Boxed.{session_in, checked_box, read_box, nodes_read, written}
 use Rattle.repair.specs.LiveNodes.{live_nodes_of}

@@ -25,14 +25,11 @@ fn put_refilled(input: &[u8], nodes: &mut [u8], out: &mut [u8]) -> usize
     ensures upper_bound { result ≤ length out.old }
     ensures out_after { out.new ≡ box_after_run (checked_box input.now).session (nodes_read input.now nodes.old) ++ drop (length (box_after_run (checked_box input.now).session (nodes_read input.now nodes.old))) out.old }
 {
-    let read = Session::read(input, nodes);
-    let session = read.session;
-    let repaired = session.run(nodes);
-    let next = repaired.session;
+    let session = Session::read(input, nodes).unwrap();
+    let next = session.run(nodes).session;
     let mut list = [0u8; 255];
-    let listed = next.live_nodes(&mut list);
-    let written = next.write(nodes, &list[..listed.length], out);
-    written.length
+    let count = next.live_nodes(&mut list).result.unwrap();
+    next.write(nodes, &list[..count], out).result.unwrap()
 }
 
 // What the refiller writes of its input, at the front of `out`; gives its length. `out` beyond it is not written.
@@ -40,8 +37,7 @@ pub fn refill(input: &[u8], out: &mut [u8; 65536]) -> usize
     ensures value { (result ≡ length (refilled_of input.now)) × (result ≤ 65536) }
     ensures out_after { out.new ≡ refilled_of input.now ++ drop (length (refilled_of input.now)) out.old }
 {
-    let said = listing::turned_away(input, out);
-    if said != 0 {
+    if let Err(said) = listing::session_in(input, out) {
         return said;
     }
     let n = boxes::node_count(input);

@@ -7,12 +7,7 @@ use Rattle.checks.specs.Checks.{first_met}
 use Rattle.checks.proofs.AnswerLaws.{none_met}
 use Rattle.boxes.specs.Box.{box_checks}
 use Rattle.repair.specs.declared.Session.{Session}
-use Rattle.repair.specs.declared.Started.{Started}
-use Rattle.repair.specs.declared.Written.{Written}
-use Rattle.repair.specs.declared.Stepped.{Stepped}
-use Rattle.repair.specs.declared.Repairs.{Repairs}
-use Rattle.repair.specs.declared.ReadOut.{ReadOut}
-use Rattle.repair.specs.declared.PlanChecked.{PlanChecked}
+use Rattle.repair.specs.Answers.{Started, Written, Stepped, Repairs, ReadOut, PlanChecked}
 use Rattle.repair.specs.Session.{refused_start, start_checks, started, nodes_checks}
 use Rattle.repair.specs.Boxed.{checked_box, read_checks, read_box, refused_write, write_checks, written}
 use Rattle.repair.specs.LiveNodes.{live_checks, live_listed}

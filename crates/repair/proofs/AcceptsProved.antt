@@ -8,11 +8,7 @@ use Rattle.checks.proofs.Laws.{accepted, none_zero}
 use Rattle.blocks.proofs.BlockLaws.{block_of_other}
 use Rattle.blocks.proofs.PartLaws.{length-block_of}
 use Rattle.blocks.proofs.XorBytes.{length-xor_bytes}
-use Rattle.repair.specs.declared.Written.{Written}
-use Rattle.repair.specs.declared.ReadOut.{ReadOut}
-use Rattle.repair.specs.declared.Repairs.{Repairs}
-use Rattle.repair.specs.declared.PairsFound.{PairsFound}
-use Rattle.repair.specs.declared.PlanChecked.{PlanChecked}
+use Rattle.repair.specs.Answers.{Written, ReadOut, Repairs, PairsFound, PlanChecked}
 use Rattle.repair.specs.Session.{nodes_checks}
 use Rattle.repair.specs.Boxed.{refused_write, write_checks, written}
 use Rattle.repair.specs.LiveNodes.{live_listed}

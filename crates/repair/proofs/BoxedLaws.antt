@@ -18,8 +18,7 @@ use Rattle.boxes.specs.Box.{block_length_in, names_in, bodies_in, node_count_in,
 use Rattle.boxes.specs.Bodies.{box_of, with_bodies}
 use Rattle.boxes.proofs.Answers.{box_none}
 use Rattle.repair.specs.declared.Session.{Session}
-use Rattle.repair.specs.declared.Started.{Started}
-use Rattle.repair.specs.declared.Written.{Written}
+use Rattle.repair.specs.Answers.{Started, Written}
 use Rattle.repair.specs.Session.{refused_start, node_count_of, nodes_checks}
 use Rattle.repair.specs.Boxed.{session_in, read_checks, read_box, nodes_read, written_length, refused_write, write_checks, written, out_written}
 use Rattle.repair.proofs.StartLaws.{nodes_none}
@@ -114,9 +113,6 @@ module _ (s : Session) (length : ℕ) (list : List ℕ) where
 
   abbrev checks : List Check
   checks = nodes_checks s length ++ (list_checks (node_count_of s) list ++ missing)
-
-  pub list_stops : (first_met (nodes_checks s length) ≡ 0 → ⊥) → first_met checks ≡ first_met (nodes_checks s length)
-  list_stops h = some_append (nodes_checks s length) _ h
 
   module _ (e : first_met (nodes_checks s length) ≡ 0) where
     on : first_met checks ≡ first_met (list_checks (node_count_of s) list ++ missing)

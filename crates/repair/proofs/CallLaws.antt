@@ -23,9 +23,7 @@ use Rattle.planning.proofs.Proved.{plan_claim}
 use Rattle.validation.specs.Good.{accepted_steps}
 use Rattle.validation.proofs.AcceptedLaws.{accepted_make}
 use Rattle.repair.specs.declared.Session.{Session}
-use Rattle.repair.specs.declared.Stepped.{Stepped}
-use Rattle.repair.specs.declared.Repairs.{Repairs}
-use Rattle.repair.specs.declared.PlanChecked.{PlanChecked}
+use Rattle.repair.specs.Answers.{Stepped, Repairs, PlanChecked}
 use Rattle.repair.specs.Session.{session_of, start_checks, started, nodes_checks, node_count_of}
 use Rattle.repair.specs.Step.{step_checks, after_steps, named_step, stepped}
 use Rattle.repair.specs.Repairs.{plan_in, repairs_of, refused_repairs, plan_checks, planned, ran}

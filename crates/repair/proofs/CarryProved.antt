@@ -29,7 +29,7 @@ use Rattle.validation.specs.Good.{bad_after, first_bad, accepted_steps}
 use Rattle.validation.proofs.AcceptedLaws.{accepted_are, accepted_none}
 use Rattle.validation.proofs.Proved.{check_claim, accepted_claim, own_plan_claim, again_claim}
 use Rattle.repair.specs.declared.Session.{Session}
-use Rattle.repair.specs.declared.PlanChecked.{PlanChecked}
+use Rattle.repair.specs.Answers.{PlanChecked}
 use Rattle.repair.specs.Session.{Arrays, unsound, nodes_checks, node_count_of}
 use Rattle.repair.specs.Step.{after_steps}
 use Rattle.repair.specs.Repairs.{plan_in, planned, out_planned, ran, nodes_ran}

@@ -17,7 +17,7 @@ use Rattle.boxes.specs.Box.{family_in, k_in, block_length_in, names_in, node_cou
 use Rattle.boxes.proofs.Answers.{box_none}
 use Rattle.boxes.proofs.Laws.{accepted_box}
 use Rattle.repair.specs.declared.Session.{Session}
-use Rattle.repair.specs.declared.Written.{Written}
+use Rattle.repair.specs.Answers.{Written}
 use Rattle.repair.specs.Session.{session_of, start_checks, started, node_count_of, nodes_checks}
 use Rattle.repair.specs.Boxed.{checked_box, read_checks, read_box, nodes_read, write_checks, written}
 use Rattle.repair.specs.LiveNodes.{live_nodes_of, live_listed}

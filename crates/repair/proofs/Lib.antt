@@ -1,6 +1,7 @@
 pub mod Refused
 pub mod Accepted
 pub mod StartLaws
+pub mod CodeLaws
 pub mod ReadOutLaws
 pub mod LiveListLaws
 pub mod PairsLaws

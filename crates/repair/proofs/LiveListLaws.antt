@@ -15,7 +15,7 @@ use Rattle.checks.proofs.Laws.{accepted, parameters_in}
 use Rattle.checks.proofs.AnswerLaws.{Gives, serves, refuses}
 use Rattle.lists.proofs.Laws.{live_nodes_inside, live_nodes_rise, live_nodes_of_list, marks_of_live_nodes}
 use Rattle.repair.specs.declared.Session.{Session}
-use Rattle.repair.specs.declared.Written.{Written}
+use Rattle.repair.specs.Answers.{Written}
 use Rattle.repair.specs.Session.{session_with, afresh, session_of, accepted_start, start_checks, started, node_count_of, unsound}
 use Rattle.repair.specs.Boxed.{refused_write}
 use Rattle.repair.specs.LiveNodes.{live_nodes_of, live_checks, live_listed, out_listed}

@@ -37,7 +37,7 @@ use Rattle.validation.proofs.AcceptedLaws.{accepted_make}
 use Rattle.readout.specs.DataBlocks.{data_node, missing_block}
 use Rattle.readout.proofs.Laws.{data_node_lem, blocks_of_encoded}
 use Rattle.repair.specs.declared.Session.{Session}
-use Rattle.repair.specs.declared.Stepped.{Stepped}
+use Rattle.repair.specs.Answers.{Stepped}
 use Rattle.repair.specs.Session.{Arrays, node_count_of, unsound, nodes_checks}
 use Rattle.repair.specs.ReadOut.{missing_in, read_out_checks, object_out}
 use Rattle.repair.specs.Step.{step_checks, after_steps, named_step, stepped, nodes_stepped}

@@ -2,7 +2,6 @@
 -- Assumes nothing.
 use mathlib.Core.Path.{◌≡◌, refl, sym, ◌∙◌}
 use mathlib.Core.Bool.{true, false}
-use mathlib.Core.Logic.{◌↔◌}
 use Prim.Native.Nat.{ℕ}
 use native.Mathlib.Omega.{arith}
 use Rattle.base.specs.Ranges.{outside}
@@ -12,7 +11,7 @@ use Rattle.checks.specs.Checks.{first_met}
 use Rattle.checks.proofs.Laws.{accepted}
 use Rattle.checks.proofs.AnswerLaws.{answer_served, answer_refused, none_met}
 use Rattle.repair.specs.declared.Session.{Session}
-use Rattle.repair.specs.declared.PairsFound.{PairsFound}
+use Rattle.repair.specs.Answers.{PairsFound}
 use Rattle.repair.specs.Session.{node_count_of, unsound}
 use Rattle.repair.specs.Pairs.{pairs_checks, served_pairs, refused_pairs, pairs_found}
 

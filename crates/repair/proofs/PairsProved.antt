@@ -1,33 +1,27 @@
 -- The claims of specs/PairClaims.antt.
 -- Assumes nothing.
-use mathlib.Core.Path.{◌≡◌, refl, sym, ap, ap₂, ◌∙◌}
-use mathlib.Core.Bool.{true, false}
-use mathlib.Core.List.{List}
-use mathlib.Core.Logic.{◌↔◌, ◌⊎◌, inl, inr}
-use Prim.Native.Nat.{ℕ, ◌*◌, ◌≤◌}
-use native.Mathlib.Nat.{eq-zero-or-pos}
+use mathlib.Core.Path.{◌≡◌, sym, ap, ap₂, ◌∙◌}
+use mathlib.Core.Bool.{false}
+use Prim.Native.Nat.{ℕ, ◌≤◌}
 use native.Mathlib.Omega.{arith}
 use lib.ListN.{length}
-use Rattle.families.specs.Families.{family_of, KInRange, IsNode, column_of}
-use Rattle.blocks.specs.Blocks.{xor_bytes, block_of}
-use Rattle.encoding.specs.Matrix.{node_block}
+use Rattle.families.specs.Families.{family_of, KInRange, IsNode}
+use Rattle.blocks.specs.Blocks.{xor_bytes}
 use Rattle.encoding.proofs.Nodes.{related_block}
-use Rattle.lists.specs.Lists.{is_live}
 use Rattle.pairing.specs.declared.Pairs.{Pairs}
-use Rattle.pairing.specs.Pairs.{pair_count, most_pairs}
+use Rattle.pairing.specs.Pairs.{pair_count}
 use Rattle.pairing.specs.Claims.{SearchClaims, IsPair}
 use Rattle.pairing.proofs.Proved.{search_claim}
 use Rattle.planning.proofs.Proved.{first_round_claim}
 use Rattle.waves.specs.Waves.{FirstWaveClaims}
 use Rattle.waves.proofs.Proved.{first_wave_claim}
 use Rattle.repair.specs.declared.Session.{Session}
-use Rattle.repair.specs.declared.PairsFound.{PairsFound}
-use Rattle.repair.specs.Session.{Arrays, node_count_of, unsound}
+use Rattle.repair.specs.Answers.{PairsFound}
+use Rattle.repair.specs.Session.{unsound}
 use Rattle.repair.specs.Pairs.{served_pairs, pairs_found}
-use Rattle.repair.specs.Step.{after_steps, stepped}
+use Rattle.repair.specs.Step.{after_steps}
 use Rattle.repair.specs.Repairs.{plan_in, ran}
 use Rattle.repair.specs.Calls.{run}
-use Rattle.repair.specs.RepairClaims.{LiveAreOwn}
 use Rattle.repair.specs.PairClaims.{PairsClaims, PairsClaim, RunPairsClaim}
 use Rattle.repair.proofs.StartLaws.{known}
 use Rattle.repair.proofs.PairsLaws.{pairs_accepted, pairs_given}

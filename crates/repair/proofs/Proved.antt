@@ -23,7 +23,7 @@ use Rattle.boxes.specs.Bodies.{box_of}
 use Rattle.boxes.proofs.Answers.{by_page, by_tests, by_box, body_empty}
 use Rattle.boxes.proofs.Laws.{accepted_box}
 use Rattle.boxes.proofs.Proved.{order_claim, body_claim, box_of_body_claim}
-use Rattle.repair.specs.declared.Started.{Started}
+use Rattle.repair.specs.Answers.{Started}
 use Rattle.repair.specs.Session.{refused_start, started, node_count_of, unsound, nodes_checks}
 use Rattle.repair.specs.Boxed.{checked_box, read_checks, read_box, written_length, write_checks, written, out_written}
 use Rattle.repair.specs.LiveNodes.{live_nodes_of}

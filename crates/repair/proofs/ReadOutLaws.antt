@@ -5,16 +5,20 @@ use mathlib.Core.Bool.{Bool, true, false, not, cond}
 use mathlib.Core.List.{List, [], ◌∷◌}
 use Prim.Native.Nat.{ℕ, ◌*◌}
 use native.Mathlib.Omega.{arith}
-use borrow.Author.Tests.{eq-eqb, ne_eqb}
+use borrow.Author.Tests.{eqb-false, eq-eqb, ne_eqb}
 use lib.Dec.{eqb}
 use lib.ListN.{length}
 use Rattle.families.specs.Families.{family_of}
 use Rattle.checks.specs.Checks.{◌gives◌, first_met}
+use Rattle.checks.specs.Refusals.{number_of, block_of}
+use Rattle.checks.specs.declared.Refusal.{Refusal}
+use Rattle.checks.specs.declared.Refusal.TheVariants.{BlockMissing}
+use Rattle.checks.proofs.RefusalLaws.{refused as never_0}
 use Rattle.checks.proofs.Laws.{none_append, some_append}
 use Rattle.checks.proofs.AnswerLaws.{Gives, serves, refuses}
 use Rattle.readout.specs.DataBlocks.{data_blocks}
 use Rattle.repair.specs.declared.Session.{Session}
-use Rattle.repair.specs.declared.ReadOut.{ReadOut}
+use Rattle.repair.specs.Answers.{ReadOut}
 use Rattle.repair.specs.Session.{unsound, node_count_of, nodes_checks}
 use Rattle.repair.specs.ReadOut.{missing_in, read_out_checks, read_out_of, object_out}
 use Rattle.repair.proofs.Refused.{refused_out}
@@ -27,6 +31,11 @@ not_14 true b = refl
 not_14 false true = refl
 not_14 false false = refl
 
+-- and no other number comes with a block
+no_block : (refusal : Refusal) → (number_of refusal ≡ 14 → ⊥) → block_of refusal ≡ 0
+no_block (BlockMissing block) h = absurd (h refl)
+no_block _ h = refl
+
 module _ (s : Session) (nodes object : List ℕ) where
   -- an answer, and the object afterwards
   abbrev pub Reads : ReadOut → List ℕ → Type 0
@@ -38,11 +47,14 @@ module _ (s : Session) (nodes object : List ℕ) where
   unfolding read_out_of object_out
   refused number block e h b = rw (← b) (refuses (read_out_checks s nodes object) _ (refused_out s) _ object number e h)
 
-  pub by_nodes : (number : ℕ) → number ≡ first_met (nodes_checks s (length nodes)) → (number ≡ 0 → ⊥) → Reads (record { refusal = number; block = 0; session = s }) object
+  pub by_nodes : (refusal : Refusal) → number_of refusal ≡ first_met (nodes_checks s (length nodes))
+      → Reads (record { refusal = number_of refusal; block = block_of refusal; session = s }) object
   unfolding read_out_checks nodes_checks
-  by_nodes number e h =
-      refused number 0 (e ∙ sym (some_append (nodes_checks s (length nodes)) _ (λ z. h (e ∙ z)))) h
-      (ap (λ (b : Bool). cond b (missing_in s) 0) (ap (λ (x : ℕ). eqb x 14) e ∙ not_14 (unsound s) (not (eqb (length nodes) (node_count_of s * s.len)))))
+  by_nodes refusal e =
+      let other : eqb (number_of refusal) 14 ≡ false = ap (λ (x : ℕ). eqb x 14) e ∙ not_14 (unsound s) (not (eqb (length nodes) (node_count_of s * s.len))) in
+      let none = no_block refusal (eqb-false (number_of refusal) 14 other) in
+      refused (number_of refusal) (block_of refusal) (e ∙ sym (some_append (nodes_checks s (length nodes)) _ (λ z. never_0 refusal (e ∙ z)))) (never_0 refusal)
+      (ap (λ (b : Bool). cond b (missing_in s) 0) other ∙ sym none)
 
   module _ (e : first_met (nodes_checks s (length nodes)) ≡ 0) where
     pub by_object : (length object ≡ s.k * s.len → ⊥) → Reads (record { refusal = 6; block = 0; session = s }) object

@@ -11,18 +11,12 @@ use Rattle.checks.specs.Checks.{first_met}
 use Rattle.checks.proofs.AnswerLaws.{after_refused, never_answered, refusal_is, refusal_keeps}
 use Rattle.encoding.specs.Encode.{encode_checks, encode_answer, encoded}
 use Rattle.boxes.specs.Box.{box_checks, body_checks, body_of}
-use Rattle.repair.specs.declared.Started.{Started}
-use Rattle.repair.specs.declared.Stepped.{Stepped}
-use Rattle.repair.specs.declared.Repairs.{Repairs}
-use Rattle.repair.specs.declared.Written.{Written}
-use Rattle.repair.specs.declared.ReadOut.{ReadOut}
+use Rattle.repair.specs.Answers.{Started, Stepped, Repairs, Written, ReadOut, PairsFound, PlanChecked}
 use Rattle.repair.specs.Session.{refused_start, start_checks, started, unsound, nodes_checks}
 use Rattle.repair.specs.Boxed.{checked_box, read_checks, read_box, nodes_read, refused_write, write_checks, written, out_written}
 use Rattle.repair.specs.LiveNodes.{live_checks, live_listed, out_listed}
 use Rattle.repair.specs.ReadOut.{read_out_checks, read_out_of, object_out}
 use Rattle.repair.specs.Step.{step_checks, stepped, nodes_stepped}
-use Rattle.repair.specs.declared.PairsFound.{PairsFound}
-use Rattle.repair.specs.declared.PlanChecked.{PlanChecked}
 use Rattle.repair.specs.Pairs.{pairs_checks, refused_pairs, pairs_found}
 use Rattle.repair.specs.Repairs.{refused_repairs, plan_checks, planned, out_planned, ran, nodes_ran}
 use Rattle.repair.specs.Carry.{refused_plan, check_checks, plan_checked, carry_checks, carried, nodes_carried}

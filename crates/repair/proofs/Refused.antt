@@ -4,8 +4,7 @@ use mathlib.Core.Bool.{cond}
 use Prim.Native.Nat.{ℕ}
 use lib.Dec.{eqb}
 use Rattle.repair.specs.declared.Session.{Session}
-use Rattle.repair.specs.declared.Stepped.{Stepped}
-use Rattle.repair.specs.declared.ReadOut.{ReadOut}
+use Rattle.repair.specs.Answers.{Stepped, ReadOut}
 use Rattle.repair.specs.ReadOut.{missing_in}
 
 abbrev pub refused_step : Session → ℕ → Stepped

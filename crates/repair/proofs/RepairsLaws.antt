@@ -2,12 +2,13 @@
 -- Assumes nothing.
 use mathlib.Core.Path.{◌≡◌, sym, ap, subst}
 use mathlib.Core.Bool.{Bool, true, false}
-use mathlib.Core.List.{List, ◌++◌}
-use Prim.Native.Nat.{ℕ, ◌+◌, ◌*◌, ◌≤◌, ◌<◌}
+use mathlib.Core.List.{List, [], ◌++◌, append-nil}
+use Prim.Native.Nat.{ℕ, ◌+◌, ◌*◌, ◌/◌, ◌≤◌, ◌<◌}
 use native.Mathlib.Omega.{arith}
 use borrow.Author.Tests.{lt-ltb, le-ltb}
 use lib.ListN.{length, take, drop}
 use lib.Seq.{take_at}
+use Rattle.std.specs.Prelude.{Ok}
 use Rattle.families.specs.declared.Family.{Family}
 use Rattle.families.specs.Families.{family_of, KInRange, node_count}
 use Rattle.families.proofs.Laws.{few}
@@ -24,10 +25,10 @@ use Rattle.planning.proofs.CarryLaws.{length_steps, steps_back, all_in}
 use Rattle.planning.proofs.MakeLaws.{left_few, make_counts}
 use Rattle.planning.proofs.Proved.{plan_claim}
 use Rattle.repair.specs.declared.Session.{Session}
-use Rattle.repair.specs.declared.Repairs.{Repairs}
+use Rattle.repair.specs.Answers.{Repairs, repairs_as}
 use Rattle.repair.specs.Session.{node_count_of, unsound, nodes_checks}
 use Rattle.repair.specs.Step.{after_steps}
-use Rattle.repair.specs.Inner.{answer_of_plan}
+use Rattle.repair.specs.Inner.{totals_of}
 use Rattle.repair.specs.Repairs.{plan_in, repairs_of, refused_repairs, plan_checks, planned, out_planned, ran, nodes_ran}
 use Rattle.repair.proofs.StartLaws.{known}
 
@@ -81,7 +82,7 @@ module _ (s : Session) (made : Planned) (is : made ≡ planned_of (family_of s.f
   pub made_steps : made.steps ≡ length (plan_in s)
   made_steps = ap (λ (p : Planned). p.steps) is
 
-  pub made_answer : (next : Session) → answer_of_plan made next ≡ repairs_of s next
+  pub made_answer : (next : Session) → repairs_as (record { result = Ok (totals_of made); session = next }) ≡ repairs_of s next
   made_answer next = rw is
 
   pub made_few : KInRange (family_of s.family) s.k → length s.live ≡ 256 → made.steps ≤ 255
@@ -92,28 +93,29 @@ module _ (s : Session) (made : Planned) (is : made ≡ planned_of (family_of s.f
     pub made_bytes : take (4 * made.steps) bytes ≡ step_bytes (plan_in s)
     made_bytes = rw (holds, made_steps) (take_at (step_bytes (plan_in s)) after (4 * length (plan_in s)) (length_bytes (plan_in s)))
 
-    -- its steps, read back
-    pub made_back : steps_in bytes made.steps ≡ plan_in s
-    made_back = rw (holds, made_steps) (steps_back (plan_in s) after)
+    -- are four a step
+    pub made_count : length (take (4 * made.steps) bytes) / 4 ≡ made.steps
+    made_count = rw (made_bytes, length_bytes (plan_in s), made_steps) (omega arith)
+
+    -- its steps, read back from them
+    pub made_back : steps_in (take (4 * made.steps) bytes) (length (take (4 * made.steps) bytes) / 4) ≡ plan_in s
+    made_back = rw (made_count, made_bytes, made_steps, ← append-nil (step_bytes (plan_in s))) (steps_back (plan_in s) [])
 
     -- what comes to it, with the session that a run hands back
-    pub made_ran : (reads : List ℕ) → reads ≡ count_all s.reads (sources_of (steps_in bytes made.steps))
-        → answer_of_plan made (record { family = s.family; k = s.k; len = s.len; steps = s.steps + made.steps; live = made.live; reads = reads })
+    pub made_ran : (reads : List ℕ) → reads ≡ count_all s.reads (sources_of (steps_in (take (4 * made.steps) bytes) (length (take (4 * made.steps) bytes) / 4)))
+        → repairs_as (record {
+          result = Ok (totals_of made);
+          session = record { family = s.family; k = s.k; len = s.len; steps = s.steps + made.steps; live = made.live; reads = reads };
+        })
         ≡ repairs_of s (after_steps s (plan_in s))
     made_ran reads e = rw (e, made_back, is)
 
-    pub made_in : KInRange (family_of s.family) s.k → length s.live ≡ 256 → (nodes : List ℕ) → length nodes ≡ node_count_of s * s.len
-        → AllIn s.len nodes (steps_in bytes made.steps)
-    made_in range size nodes e =
+    pub made_in : unsound s ≡ false → length s.live ≡ 256 → (nodes : List ℕ) → length nodes ≡ node_count_of s * s.len
+        → AllIn s.len nodes (steps_in (take (4 * made.steps) bytes) (length (take (4 * made.steps) bytes) / 4))
+    made_in sound size nodes e =
+        let range : KInRange (family_of s.family) s.k = (known s sound).range.blocks in
         subst (AllIn s.len nodes) (sym made_back)
         (all_in (family_of s.family) s.k range s.len nodes e s.live (plan_in s) (plan_claim (family_of s.family) s.k range s.live size).makes)
-
-    -- and they can be made
-    pub made_makes : KInRange (family_of s.family) s.k → length s.live ≡ 256 → CanMakeAll (family_of s.family) s.k s.live (steps_in bytes made.steps)
-    made_makes range size = subst (CanMakeAll (family_of s.family) s.k s.live) (sym made_back) (plan_claim (family_of s.family) s.k range s.live size).makes
-
-    pub made_live : made.live ≡ marks_after s.live (steps_in bytes made.steps)
-    made_live = rw (made_back, is)
 
 -- ---- steps that can be made, from their bytes
 

@@ -19,7 +19,7 @@ use Rattle.waves.proofs.Proved.{rounds_and_waves}
 use Rattle.planning.proofs.CarryLaws.{steps_back}
 use Rattle.planning.proofs.Proved.{plan_claim, plan_rounds_claim}
 use Rattle.repair.specs.declared.Session.{Session}
-use Rattle.repair.specs.declared.Repairs.{Repairs}
+use Rattle.repair.specs.Answers.{Repairs}
 use Rattle.repair.specs.Session.{afresh, Arrays, node_count_of, unsound, nodes_checks}
 use Rattle.repair.specs.Step.{after_steps, named_step, stepped}
 use Rattle.repair.specs.Repairs.{plan_in, repairs_of, refused_repairs, plan_checks, planned, out_planned, ran}

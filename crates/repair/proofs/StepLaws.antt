@@ -22,7 +22,7 @@ use Rattle.planning.specs.Inner.{StepIn}
 use Rattle.planning.specs.Claims.{CanMake}
 use Rattle.planning.proofs.CarryLaws.{step_in}
 use Rattle.repair.specs.declared.Session.{Session}
-use Rattle.repair.specs.declared.Stepped.{Stepped}
+use Rattle.repair.specs.Answers.{Stepped}
 use Rattle.repair.specs.Session.{node_count_of, nodes_checks}
 use Rattle.repair.specs.Step.{step_checks, after_steps, named_step, stepped, nodes_stepped}
 use Rattle.repair.proofs.Refused.{refused_step}

@@ -29,8 +29,7 @@ use Rattle.leftover.specs.Open.{Open}
 use Rattle.readout.specs.DataBlocks.{data_node, missing_block}
 use Rattle.readout.proofs.Laws.{data_node_lem}
 use Rattle.repair.specs.declared.Session.{Session}
-use Rattle.repair.specs.declared.Started.{Started}
-use Rattle.repair.specs.declared.ReadOut.{ReadOut}
+use Rattle.repair.specs.Answers.{Started, ReadOut}
 use Rattle.repair.specs.Session.{Arrays, session_of, accepted_start, started, node_count_of, nodes_checks}
 use Rattle.repair.specs.Step.{after_steps}
 use Rattle.repair.specs.Boxed.{checked_box, read_checks, read_box, nodes_read, write_checks, written}

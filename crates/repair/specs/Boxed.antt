@@ -5,8 +5,7 @@ use Rattle.lists.specs.Lists.{list_checks, some_missing}
 use Rattle.boxes.specs.Box.{family_in, k_in, block_length_in, names_in, bodies_in, node_count_in, box_length, box_checks}
 use Rattle.boxes.specs.Bodies.{box_of, with_bodies}
 use Rattle.repair.specs.declared.Session.{Session}
-use Rattle.repair.specs.declared.Started.{Started}
-use Rattle.repair.specs.declared.Written.{Written}
+use Rattle.repair.specs.Answers.{Started, Written}
 use Rattle.repair.specs.Session.{session_of, accepted_start, refused_start, node_count_of, nodes_checks}
 
 -- the session of a box: the named nodes live

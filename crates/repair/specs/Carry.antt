@@ -6,7 +6,7 @@ use Rattle.planning.specs.Plan.{Step}
 use Rattle.planning.specs.Made.{steps_in, nodes_made}
 use Rattle.validation.specs.Good.{first_bad, accepted_steps}
 use Rattle.repair.specs.declared.Session.{Session}
-use Rattle.repair.specs.declared.PlanChecked.{PlanChecked}
+use Rattle.repair.specs.Answers.{PlanChecked}
 use Rattle.repair.specs.Session.{unsound, nodes_checks}
 use Rattle.repair.specs.Step.{after_steps}
 

@@ -1,8 +1,6 @@
--- For inner functions: the answer made of a plan that was made aside.
+-- For an inner function: what a plan comes to.
 use Rattle.planning.specs.declared.Planned.{Planned}
-use Rattle.repair.specs.declared.Session.{Session}
-use Rattle.repair.specs.declared.Repairs.{Repairs}
+use Rattle.repair.specs.declared.Totals.{Totals}
 
--- what the plan comes to, with the session handed back
-abbrev pub answer_of_plan : Planned → Session → Repairs
-answer_of_plan made next = record { refusal = 0; steps = made.steps; rounds = made.rounds; left = made.left; session = next }
+abbrev pub totals_of : Planned → Totals
+totals_of planned = record { steps = planned.steps; rounds = planned.rounds; left = planned.left }

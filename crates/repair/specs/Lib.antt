@@ -1,3 +1,4 @@
+pub mod Answers
 pub mod Session
 pub mod ReadOut
 pub mod Boxed

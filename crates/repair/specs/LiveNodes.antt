@@ -3,7 +3,7 @@ use Rattle.std.specs.Prelude.{ℕ, List, [], ◌∷◌, ◌++◌, length, drop, 
 use Rattle.checks.specs.Checks.{Check, ◌gives◌, answer, afterwards}
 use Rattle.lists.specs.Lists.{live_nodes}
 use Rattle.repair.specs.declared.Session.{Session}
-use Rattle.repair.specs.declared.Written.{Written}
+use Rattle.repair.specs.Answers.{Written}
 use Rattle.repair.specs.Session.{node_count_of, unsound}
 use Rattle.repair.specs.Boxed.{refused_write}
 

@@ -6,7 +6,7 @@ use Rattle.checks.specs.Checks.{Check, ◌gives◌, answer}
 use Rattle.pairing.specs.declared.Pairs.{Pairs}
 use Rattle.pairing.specs.Pairs.{pairs_of}
 use Rattle.repair.specs.declared.Session.{Session}
-use Rattle.repair.specs.declared.PairsFound.{PairsFound}
+use Rattle.repair.specs.Answers.{PairsFound}
 use Rattle.repair.specs.Session.{node_count_of, unsound}
 
 -- Pairs: 13, then 4 for a node that is 0 or above n

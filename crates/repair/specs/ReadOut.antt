@@ -4,7 +4,7 @@ use Rattle.families.specs.Families.{family_of}
 use Rattle.checks.specs.Checks.{Check, ◌gives◌, answer, afterwards}
 use Rattle.readout.specs.DataBlocks.{missing_block, data_blocks}
 use Rattle.repair.specs.declared.Session.{Session}
-use Rattle.repair.specs.declared.ReadOut.{ReadOut}
+use Rattle.repair.specs.Answers.{ReadOut}
 use Rattle.repair.specs.Session.{nodes_checks}
 
 -- the lowest data block whose node is missing; 0 where none is

@@ -5,8 +5,7 @@ use Rattle.checks.specs.Checks.{first_met}
 use Rattle.encoding.specs.Encode.{encode_answer, encoded}
 use Rattle.boxes.specs.Box.{body_checks, body_of}
 use Rattle.repair.specs.declared.Session.{Session}
-use Rattle.repair.specs.declared.Started.{Started}
-use Rattle.repair.specs.declared.Repairs.{Repairs}
+use Rattle.repair.specs.Answers.{Started, Repairs}
 use Rattle.repair.specs.Session.{started, unsound}
 use Rattle.repair.specs.Boxed.{checked_box, read_box, nodes_read, written, out_written}
 use Rattle.repair.specs.LiveNodes.{live_listed, out_listed}

@@ -5,7 +5,7 @@ use Rattle.checks.specs.Checks.{Check, ◌gives◌, answer, afterwards}
 use Rattle.planning.specs.Plan.{Step, plan_of, marks_after, step_bytes, last_round, nodes_left}
 use Rattle.planning.specs.Made.{nodes_made}
 use Rattle.repair.specs.declared.Session.{Session}
-use Rattle.repair.specs.declared.Repairs.{Repairs}
+use Rattle.repair.specs.Answers.{Repairs}
 use Rattle.repair.specs.Session.{node_count_of, unsound, nodes_checks}
 use Rattle.repair.specs.Step.{after_steps}
 

@@ -7,7 +7,7 @@ use Rattle.lists.specs.Lists.{list_checks, none_live, set_live, live_outside}
 use Rattle.counts.specs.Counts.{no_counts, sum_of, counted_outside}
 use Rattle.planning.specs.Plan.{nodes_left}
 use Rattle.repair.specs.declared.Session.{Session}
-use Rattle.repair.specs.declared.Started.{Started}
+use Rattle.repair.specs.Answers.{Started}
 
 -- a session of a family, k, L and marks with nothing counted: no steps, and no reads of any number
 abbrev pub session_with : ℕ → ℕ → ℕ → List Bool → Session

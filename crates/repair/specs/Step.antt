@@ -7,7 +7,7 @@ use Rattle.counts.specs.Counts.{count_all}
 use Rattle.planning.specs.Plan.{Step, sources_of, marks_after}
 use Rattle.planning.specs.Made.{mended}
 use Rattle.repair.specs.declared.Session.{Session}
-use Rattle.repair.specs.declared.Stepped.{Stepped}
+use Rattle.repair.specs.Answers.{Stepped}
 use Rattle.repair.specs.Session.{node_count_of, nodes_checks}
 
 -- Step: 13, 6, 4 for any of the three, 10, 11, 12

@@ -9,7 +9,7 @@ use Rattle.boxes.specs.Box.{family_in, k_in, block_length_in, held_count_in, nam
 use Rattle.leftover.specs.Open.{Open}
 use Rattle.readout.specs.DataBlocks.{data_node}
 use Rattle.repair.specs.declared.Session.{Session}
-use Rattle.repair.specs.declared.Started.{Started}
+use Rattle.repair.specs.Answers.{Started}
 use Rattle.repair.specs.Session.{afresh, Arrays, accepted_start, started, node_count_of, unsound}
 use Rattle.repair.specs.Boxed.{checked_box, read_box, nodes_read, written}
 use Rattle.repair.specs.LiveNodes.{live_listed}

@@ -1,60 +1,37 @@
 // Start, and whether a session is sound.
-ghost use Rattle.std.specs.Prelude.{◌≡◌, ◌≤◌, length};
-ghost use Rattle.checks.specs.Checks.{first_met};
+ghost use Rattle.std.specs.Prelude.{◌≡◌, [], ◌∷◌, ◌≤◌, IfOk, length};
+ghost use Rattle.checks.specs.Checks.{◌gives◌, first_met};
+ghost use Rattle.checks.specs.Refusals.{number_in, IsCodeOf};
 ghost use Rattle.lists.specs.Lists.{live_nodes};
-ghost use Rattle.repair.specs.Session.{refused_start, start_checks, started, node_count_of, miscounted, unsound, nodes_checks};
+ghost use Rattle.repair.specs.Answers.{started_as};
+ghost use Rattle.repair.specs.Session.{start_checks, started, node_count_of, miscounted, unsound, nodes_checks};
 
-use crate::{Session, Started};
+use crate::{Answer, Session};
+use checks::Refusal;
+use families::Code;
 
-// A refused start or box: a session of zeros with every mark missing.
-pub fn refused(number: u8) -> Started
-    ensures { result ≡ refused_start number }
+// The first check of a start that is met, if one is. Any number of a family is served or refused (`start_checks`).
+fn check_start(family: usize, k: usize, len: usize, list: &[u8]) -> Result<(), Refusal>
+    ensures { number_in result ≡ first_met (start_checks family k len list.now) }
 {
-    Started {
-        refusal: number,
-        session: Session {
-            family: 0,
-            k: 0,
-            len: 0,
-            steps: 0,
-            live: [false; 256],
-            reads: [0u16; 256],
-        },
-    }
-}
-
-// The first check of a start that is met, or 0.
-fn start_refusal(family: usize, k: usize, len: usize, list: &[u8]) -> u8
-    ensures { result ≡ first_met (start_checks family k len list.now) }
-{
-    let bad = checks::parameter_refusal(family, k, len);
-    if bad != 0 {
-        return bad;
-    }
-    lists::list_refusal(families::node_count_of(family, k), list)
+    let code = checks::parameters(family, k, len)?;
+    lists::check(code.node_count(), list)
 }
 
 impl Session {
     // A session with the nodes of a strictly rising list live.
-    pub fn start(family: usize, k: usize, len: usize, list: &[u8]) -> Started
-        ensures { result ≡ started family k len list.now }
+    pub fn start(family: usize, k: usize, len: usize, list: &[u8]) -> Result<Session, Refusal>
+        ensures { started_as result ≡ started family k len list.now }
     {
-        let bad = start_refusal(family, k, len, list);
-        if bad != 0 {
-            return refused(bad);
-        }
-        let live = lists::marks_of_list(list);
-        Started {
-            refusal: 0,
-            session: Session {
-                family: family,
-                k: k,
-                len: len,
-                steps: 0,
-                live: live,
-                reads: [0u16; 256],
-            },
-        }
+        check_start(family, k, len, list)?;
+        Ok(Session {
+            family,
+            k,
+            len,
+            steps: 0,
+            live: lists::marks_of_list(list),
+            reads: [0u16; 256],
+        })
     }
 
     // Whether the counts are wrong, by n and the number of live nodes. Steps and missing nodes exceed n where there are more steps
@@ -73,32 +50,66 @@ impl Session {
         counts::sum(reads) != 2 * self.steps
     }
 
+    // The code of a sound session; 13 for any other.
+    pub fn code(self) -> Result<Code, Refusal>
+        ensures number { number_in result ≡ first_met ((unsound self gives 13) ∷ []) }
+        ensures code { IfOk result (IsCodeOf self.family self.k) }
+    {
+        let code = match checks::parameters(self.family, self.k, self.len) {
+            Ok(code) => code,
+            Err(_) => return Err(Refusal::UnsoundSession),
+        };
+        let n = code.node_count();
+        let live = self.live;
+        if lists::live_outside(n, &live) {
+            return Err(Refusal::UnsoundSession);
+        }
+        if self.is_miscounted(n, lists::count_live(&live, n)) {
+            return Err(Refusal::UnsoundSession);
+        }
+        Ok(code)
+    }
+
     // Whether the session is turned away with 13.
     pub fn is_unsound(self) -> bool
         ensures { result ≡ unsound self }
     {
-        if checks::parameter_refusal(self.family, self.k, self.len) != 0 {
-            return true;
+        match self.code() {
+            Ok(_) => false,
+            Err(_) => true,
         }
-        let n = families::node_count_of(self.family, self.k);
-        let live = self.live;
-        if lists::live_outside(n, &live) {
-            return true;
-        }
-        self.is_miscounted(n, lists::count_live(&live, n))
     }
 
-    // 13, or 6 for a nodes buffer that is not n × L bytes long, or 0.
-    pub fn nodes_refusal(self, nodes: usize) -> u8
-        ensures { result ≡ first_met (nodes_checks self nodes) }
+    // The code; 13, or 6 for a nodes buffer that is not n × L bytes long.
+    pub fn check_nodes(self, nodes: usize) -> Result<Code, Refusal>
+        ensures number { number_in result ≡ first_met (nodes_checks self nodes) }
+        ensures code { IfOk result (IsCodeOf self.family self.k) }
     {
-        if self.is_unsound() {
-            return 13;
-        }
-        let n = families::node_count_of(self.family, self.k);
+        let code = self.code()?;
+        let n = code.node_count();
         if nodes != n * self.len {
-            return 6;
+            return Err(Refusal::BufferLength);
         }
-        0
+        Ok(code)
+    }
+
+    // A refused call: the session goes back as it was handed in.
+    pub fn refused<T: Copy>(self, refusal: Refusal) -> Answer<T>
+        ensures { result ≡ record { result = Err refusal; session = self } }
+    {
+        Answer {
+            result: Err(refusal),
+            session: self,
+        }
+    }
+
+    // A served call after which the session is this one.
+    pub fn served<T: Copy>(self, value: T) -> Answer<T>
+        ensures { result ≡ record { result = Ok value; session = self } }
+    {
+        Answer {
+            result: Ok(value),
+            session: self,
+        }
     }
 }

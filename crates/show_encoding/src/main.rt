@@ -4,7 +4,7 @@
 
 ghost use Rattle.std.specs.Prelude.{◌≡◌, ◌≤◌, length};
 
-use families::Family;
+use families::{Code, Family};
 
 const K: usize = 3;
 
@@ -42,7 +42,11 @@ fn print_node(rt: &impl Print, nodes: &[u8], j: usize)
     let _ = print!(rt; "node");
     print_number(rt, j);
     let _ = print!(rt; ": blocks");
-    print_blocks(rt, families::column(Family::Simplex, K, j));
+    let code = Code {
+        family: Family::Simplex,
+        k: K,
+    };
+    print_blocks(rt, code.column(j));
     let _ = print!(rt; ", bytes");
     let from = (j - 1) * LENGTH;
     print_bytes(rt, &nodes[from..from + LENGTH]);
@@ -59,12 +63,12 @@ fn print_nodes(rt: &impl Print, nodes: &[u8])
 
 fn main(rt: HostRuntime) {
     let mut nodes = [0u8; 28];
-    let answer = encoding::encode(1, K, LENGTH, b"lacquer disc", &mut nodes);
-    if answer != 0 {
-        let _ = print!(rt; "refused");
-        print_number(&rt, answer as usize);
-        let _ = println!(rt);
-        return;
+    match encoding::encode(1, K, LENGTH, b"lacquer disc", &mut nodes) {
+        Ok(_) => print_nodes(&rt, &nodes),
+        Err(refusal) => {
+            let _ = print!(rt; "refused");
+            print_number(&rt, usize::from(u8::from(refusal)));
+            let _ = println!(rt);
+        }
     }
-    print_nodes(&rt, &nodes);
 }

@@ -1,80 +1,59 @@
 // Standard input, output and error of the programs, over std's readers and writers.
 #![tactic(auto)]
 
-ghost use Rattle.std.specs.Prelude.{◌≡◌, ◌+◌, ◌-◌, ◌^◌, ◌<◌, false, IfOk, IsTrue, length, take, drop};
+ghost use Rattle.std.specs.Prelude.{◌≡◌, ◌-◌, ◌<◌, IsOk, IsTrue, length, take, drop};
 ghost use Rattle.std.specs.Io.KnownBytes.{Appends, Consumes, IsAtEnd};
-ghost use Rattle.stdio.specs.Reading.{after_read, ReadInto};
+ghost use Rattle.stdio.specs.Reading.{count_read, ReadInto};
 ghost use Rattle.stdio.specs.Inner.{ReadAfter};
 
 use std::io;
 use std::io::{Read, Write};
 
-// What was read: how many bytes stand at the front of the buffer, and whether a read failed, so that there may be more to read.
-#[derive(Clone, Copy)]
-pub struct Reading {
+// A read failed: so many bytes had been read, and there may be more to read.
+#[derive(Clone, Copy, Debug, PartialEq, Eq)]
+pub struct ReadFailed {
     pub count: usize,
-    pub failed: bool,
 }
 
-// What was read once a read answered, `count` bytes having been read before it.
-fn after_read(count: usize, answer: io::Result<usize>) -> Reading
-    requires { IfOk answer (λ got. count + got < 2 ^ 64) }
-    ensures { result ≡ after_read count answer }
-{
-    match answer {
-        Ok(got) => Reading {
-            count: count + got,
-            failed: false,
-        },
-        Err(_) => Reading {
-            count,
-            failed: true,
-        },
-    }
-}
-
-// One read more, into `buf` after the `count` bytes that were read before.
-fn read_more<R: Read>(reader: &mut R, buf: &mut [u8], count: usize) -> Reading
+// One read more, into `buf` after the `count` bytes that were read before: how many have been read then.
+fn read_more<R: Read>(reader: &mut R, buf: &mut [u8], count: usize) -> Result<usize, ReadFailed>
     requires { count < length buf.old }
     ensures after { ReadAfter count buf.new result }
     ensures front { take count buf.new ≡ take count buf.old }
-    ensures bytes { Consumes (R.remaining reader.old) (R.remaining reader.new) (take (result.count - count) (drop count buf.new)) }
-    ensures end { result.failed ≡ false → result.count ≡ count → IsAtEnd (R.remaining reader.new) }
+    ensures bytes { Consumes (R.remaining reader.old) (R.remaining reader.new) (take (count_read result - count) (drop count buf.new)) }
+    ensures end { result ≡ Ok count → IsAtEnd (R.remaining reader.new) }
 {
-    let answer = reader.read(&mut buf[count..]);
-    after_read(count, answer)
+    match reader.read(&mut buf[count..]) {
+        Ok(got) => Ok(count + got),
+        Err(_) => Err(ReadFailed { count }),
+    }
 }
 
 // Reads until `buf` is full, the input ends or a read fails.
-fn read_to_end<R: Read>(reader: &mut R, buf: &mut [u8]) -> Reading
+fn read_to_end<R: Read>(reader: &mut R, buf: &mut [u8]) -> Result<usize, ReadFailed>
     ensures into { ReadInto buf.new result }
-    ensures bytes { Consumes (R.remaining reader.old) (R.remaining reader.new) (take result.count buf.new) }
-    ensures end { result.failed ≡ false → result.count < length buf.new → IsAtEnd (R.remaining reader.new) }
+    ensures bytes { Consumes (R.remaining reader.old) (R.remaining reader.new) (take (count_read result) buf.new) }
+    ensures end { IsOk result → count_read result < length buf.new → IsAtEnd (R.remaining reader.new) }
 {
     let mut count: usize = 0;
+    // Each read adds as many bytes as the input gives, so this is no count of turns.
     while count < buf.len() {
-        let read = read_more(reader, buf, count);
-        if read.failed {
-            return read;
+        let now = read_more(reader, buf, count)?;
+        if now == count {
+            return Ok(now);
         }
-        if read.count == count {
-            return read;
-        }
-        count = read.count;
+        count = now;
     }
-    Reading {
-        count,
-        failed: false,
-    }
+    Ok(count)
 }
 
-// Reads standard input into `buf`. Where a read fails it says so on standard error.
-pub fn read_input(rt: &(impl Input + Eprint), buf: &mut [u8]) -> Reading
+// Reads standard input into `buf`: how many bytes stand at its front. Where a read fails it says so on standard error.
+pub fn read_input(rt: &(impl Input + Eprint), buf: &mut [u8]) -> Result<usize, ReadFailed>
     ensures { ReadInto buf.new result }
 {
     let mut reader = rt.reader();
     let read = read_to_end(&mut reader, buf);
-    if read.failed {
+    if read.is_err() {
         let _ = rt.eprint("cannot read\n");
     }
     read

@@ -42,12 +42,10 @@ impl Write for Full {
 fn reads_up_to_a_failure(rt: HostRuntime) {
     let mut buf = [0u8; 5];
     let read = read_to_end(&mut Failing { left: 3 }, &mut buf);
-    assert!(rt; read.failed);
-    assert_eq!(rt; read.count, 3);
+    assert_eq!(rt; read, Err(ReadFailed { count: 3 }));
     assert_eq!(rt; buf, [3, 2, 1, 0, 0]);
     let again = read_to_end(&mut Failing { left: 9 }, &mut buf);
-    assert!(rt; !again.failed);
-    assert_eq!(rt; again.count, 5);
+    assert_eq!(rt; again, Ok(5));
     assert_eq!(rt; buf, [9, 8, 7, 6, 5]);
 }
 
@@ -56,8 +54,7 @@ fn reads_to_the_end(rt: HostRuntime) {
     let mut buf = [0u8; 5];
     let mut input: &[u8] = b"abc";
     let read = read_to_end(&mut input, &mut buf);
-    assert!(rt; !read.failed);
-    assert_eq!(rt; read.count, 3);
+    assert_eq!(rt; read, Ok(3));
     assert_eq!(rt; buf, *b"abc\0\0");
 }
 

@@ -4,12 +4,15 @@ use mathlib.Core.Path.{◌≡◌, sym, ap, subst, ◌∙◌}
 use mathlib.Core.List.{List}
 use mathlib.Core.Logic.{⊎_elim}
 use Prim.Native.Nat.{ℕ, ◌+◌, ◌-◌, ◌*◌, ◌^◌, ◌≤◌, ◌<◌}
-use native.Mathlib.Nat.{add-mul, mul_comm}
+use native.Mathlib.Nat.{add-mul, mul_comm, mul-le-mul_right}
 use native.Mathlib.Decide.{dec_lt}
 use native.Mathlib.Omega.{arith}
 use borrow.Author.Count.{below_more}
 use lib.ListN.{length, get_or}
-use Rattle.transposition.specs.Inner.{transposed, PiecesIn, Right, Nears, TileIn, Start, Suits, Spans}
+use Rattle.std.specs.Prelude.{min}
+use Rattle.std.specs.Int.{div_ceil}
+use Rattle.std.proofs.lemmas.Grind.{div_ceil_times}
+use Rattle.transposition.specs.Inner.{transposed, PiecesIn, Right, Nears, TileIn, Start}
 use Rattle.transposition.proofs.Places.{row_end}
 use Rattle.transposition.proofs.TransposeLaws.{length-transposed, transposed_at, is_transposed}
 
@@ -58,24 +61,27 @@ near_first {goal} {s} {t} {u} {done} {count} {c} {size} {rows} w n l =
     let e : c * rows ≡ 0 + c * rows = omega arith in
     near_after w (subst (λ (x : ℕ). Nears goal t u count size x rows) e n) l
 
--- each tile goes further than the one before
-pub further : {at size end start : ℕ} → Start at size end start → at < end → 0 < size → end - (start + size) < end - at
-further {at} {size} {end} {start} s h p = ⊎_elim (λ (e : start ≡ at). omega (arith, s.within)) (λ (e : start + size ≡ end). omega arith) s.last
+-- ---- tiles one after the other
 
--- tiles that span two of the few
-pub two : {few many span : ℕ} → Spans few many span → span ≡ 1 → (few ≡ 2) × (64 ≤ many)
-two s e = (s.pair e, rw e at (s.fits (omega arith)).1)
+-- what the first t of them cover
+abbrev pub covered : ℕ → ℕ → ℕ → ℕ
+covered t size end = min (t * size) end
 
--- tiles that span four or eight of them
-module _ (few many span : ℕ) (s : Spans few many span) (some : span ≡ 0 → ⊥) (more : span ≡ 1 → ⊥) where
-  pub suits_tall : Suits many few (7 - span)
-  suits_tall =
-      let e : 7 - (7 - span) ≡ span = omega (arith, s.most) in
-      let f = s.fits (omega arith) in
-      record { least = omega (arith, s.most); most = omega arith; high = f.1; wide = rw e f.0 }
+-- one of them begins no later than what is covered
+pub start_covered : (t : ℕ) {size end start : ℕ} → Start (t * size) size end start → start ≤ covered t size end
+start_covered t s = omega (arith, s.no_later, s.within)
 
-  pub suits_wide : Suits few many span
-  suits_wide = let f = s.fits (omega arith) in record { least = omega arith; most = omega (arith, s.most); high = f.0; wide = f.1 }
+-- one more covers what lies before its end
+pub covered_more : (t : ℕ) {size end start : ℕ} → Start (t * size) size end start → covered (t + 1) size end ≡ start + size
+covered_more t {size} {end} {start} s =
+    let e : (t + 1) * size ≡ t * size + size = rw (add-mul t 1 size) (omega arith) in
+    ⊎_elim (λ (f : start ≡ t * size). omega (arith, e, s.within)) (λ (f : start + size ≡ end). omega (arith, e, s.no_later)) s.last
+
+-- all of them cover everything
+pub covered_all : (t size end : ℕ) → 0 < size → div_ceil end size ≤ t → covered t size end ≡ end
+covered_all t size end p h =
+    let e : div_ceil end size * size ≤ t * size = mul-le-mul_right size h in
+    omega (arith, (div_ceil_times end size p).0, e)
 
 module _ (rows columns : ℕ) (source : List ℕ) (size : length source ≡ rows * columns) where
   -- all rows, or all columns

@@ -1,12 +1,13 @@
 -- Tiles: one row more loaded, and a tile that goes from pieces of one buffer to pieces of another.
 -- Assumes nothing.
-use mathlib.Core.Path.{◌≡◌, ◌∙◌}
+use mathlib.Core.Path.{◌≡◌, sym, ap, ◌∙◌}
 use mathlib.Core.List.{List}
 use Prim.Native.Nat.{ℕ, zero, suc, ◌+◌, ◌-◌, ◌*◌, ◌/◌, ◌%◌, ◌^◌, ◌≤◌, ◌<◌}
 use native.Mathlib.Nat.{zero-mul}
 use native.Mathlib.Omega.{arith}
 use borrow.Author.Count.{below_more}
 use borrow.Rule.Slice.PartMut.{mid_of, put_mid}
+use lib.Pow.{pow-add}
 use lib.ListN.{length, get_or}
 use Rattle.blocks.proofs.PartLaws.{length_mid, get_or_mid, put_inside, put_before}
 use Rattle.transposition.specs.Inner.{transposed, PiecesIn, Nears, Loaded, Stored, Turned}
@@ -28,6 +29,10 @@ loaded_more {source} {tile} {from} {from-stride} {i} {size} f g w =
 
     e : length v ≡ size
     e = length_mid source (from + i * from-stride) size f
+
+-- a tile has 128 bytes
+pub tile_size : (log : ℕ) → log ≤ 7 → 2 ^ log * 2 ^ (7 - log) ≡ 128
+tile_size log h = let e : log + (7 - log) ≡ 7 = omega arith in sym (pow-add 2 log (7 - log)) ∙ ap (λ (x : ℕ). 2 ^ x) e
 
 -- a tile loaded, transposed and stored
 pub moved : (log : ℕ) {source tile turned before after : List ℕ} {from from-stride to to-stride : ℕ} → Loaded source from from-stride (2 ^ log) (2 ^ (7 - log)) tile

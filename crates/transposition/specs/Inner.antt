@@ -1,7 +1,9 @@
 -- For inner functions: the transpose of a matrix of bytes; a buffer that becomes another byte by byte, in any order; and tiles of 128
 -- bytes, a power of two of rows each.
-use Rattle.std.specs.Prelude.{◌≡◌, List, ◌⊎◌, ℕ, ◌+◌, ◌-◌, ◌*◌, ◌/◌, ◌%◌, ◌^◌, ◌≤◌, ◌<◌, length, get_or}
+use Rattle.std.specs.Prelude.{◌≡◌, ⊤, Option, None, Some, List, ◌⊎◌, ℕ, ◌+◌, ◌-◌, ◌*◌, ◌/◌, ◌%◌, ◌^◌, ◌≤◌, ◌<◌, length, get_or}
 use Rattle.base.specs.Ranges.{list_from}
+use Rattle.transposition.specs.declared.Span.{Span}
+use Rattle.transposition.specs.declared.Span.TheVariants.{Two, Four, Eight}
 
 -- ---- the transpose
 
@@ -67,8 +69,9 @@ pub record Start (at size end start : ℕ) : Type 0 where
   pub within : start + size ≤ end
   pub last : (start ≡ at) ⊎ (start + size ≡ end)
 
--- where span is not 0, tiles of 2^span of the few and 2^(7 − span) of the many fit, and 1 is for two alone
-pub record Spans (few many span : ℕ) : Type 0 where
-  pub most : span ≤ 3
-  pub fits : 1 ≤ span → (2 ^ span ≤ few) × (2 ^ (7 - span) ≤ many)
-  pub pair : span ≡ 1 → few ≡ 2
+-- tiles of so many of the few and 128 / that of the many fit; those of two are for two alone
+abbrev pub Spans : ℕ → ℕ → Option Span → Type 0
+Spans few many None = ⊤
+Spans few many (Some Two) = (few ≡ 2) × (64 ≤ many)
+Spans few many (Some Four) = (4 ≤ few) × (32 ≤ many)
+Spans few many (Some Eight) = (8 ≤ few) × (16 ≤ many)

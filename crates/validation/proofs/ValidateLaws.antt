@@ -5,8 +5,11 @@ use mathlib.Core.Bool.{Bool, true, false}
 use mathlib.Core.List.{List, [], ◌∷◌, ◌++◌}
 use Prim.Native.Nat.{ℕ, ◌+◌, ◌-◌, ◌*◌, ◌/◌, ◌≤◌, ◌<◌}
 use native.Mathlib.Omega.{arith}
+use Rattle.std.specs.Prelude.{Option, None, Some}
 use lib.ListN.{length, get_or, take, drop, set, length-append, length-take, length-drop}
 use lib.Seq.{get_or-take, get_or-drop}
+use Rattle.base.specs.Numbers.{numbered}
+use Rattle.base.proofs.NumberLaws.{numbered_next}
 use Rattle.families.specs.declared.Family.{Family}
 use Rattle.lists.specs.Lists.{set_live}
 use Rattle.planning.specs.Plan.{Step, once, marks_after}
@@ -55,11 +58,11 @@ module _ {f : Family} {k : ℕ} {plan : List ℕ} {marks : List Bool} where
     step = step_at plan i
 
     -- the answer where the plan is at its end
-    pub check_done : count plan ≤ i → record { bad = 0; live = live } ≡ validated_of f k marks (steps_in plan (count plan))
+    pub check_done : count plan ≤ i → record { bad = None; live = live } ≡ validated_of f k marks (steps_in plan (count plan))
     unfolding bad_after good_steps set_live
     check_done h =
         let e = from_last plan (count plan) i h in
-        ap₂ (λ (b : ℕ) (l : List Bool). record { bad = b; live = l })
+        ap₂ (λ (b : ℕ) (l : List Bool). record { bad = numbered b; live = l })
         (sym (w.bad ∙ ap (bad_after f k marks w.earlier) e))
         (sym (w.made ∙ ap (λ (s : List Step). marks_after live (good_steps f k marks w.earlier s)) e))
 
@@ -80,12 +83,13 @@ module _ {f : Family} {k : ℕ} {plan : List ℕ} {marks : List Bool} where
         asked = rw (g, round_is, part_step plan i)
 
         -- the answer where it is bad
-        pub check_bad : good_by f k last live entered (step_of_bytes (part plan i)) ≡ false → record { bad = i + 1; live = live } ≡ validated_of f k marks (steps_in plan (count plan))
+        pub check_bad : good_by f k last live entered (step_of_bytes (part plan i)) ≡ false → record { bad = Some (i + 1); live = live } ≡ validated_of f k marks (steps_in plan (count plan))
         unfolding good_steps set_live
         check_bad b =
             let e = from_next plan (count plan) i h in
             let not-Good = good_is ∙ asked ∙ b in
-            ap₂ (λ (n : ℕ) (l : List Bool). record { bad = n; live = l })
+            ap (λ (b : Option ℕ). record { bad = b; live = live }) (numbered_next i)
+            ∙ ap₂ (λ (n : ℕ) (l : List Bool). record { bad = numbered n; live = l })
             (sym (w.bad ∙ ap (bad_after f k marks w.earlier) e ∙ after_bad f k marks w.earlier step rest not-Good ∙ omega (arith, w.number)))
             (sym (w.made ∙ ap (λ (s : List Step). marks_after live (good_steps f k marks w.earlier s)) e ∙ rw not-Good))
 

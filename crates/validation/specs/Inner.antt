@@ -1,5 +1,6 @@
 -- For inner functions: a step by what the steps before it have come to, and the steps before the first bad one.
 use Rattle.std.specs.Prelude.{ℕ, Bool, cond, not, ◌&&◌, List, [], ◌∷◌, ◌++◌, eqb, ltb}
+use Rattle.base.specs.Numbers.{numbered}
 use Rattle.families.specs.declared.Family.{Family}
 use Rattle.families.specs.Families.{node_count, are_related}
 use Rattle.lists.specs.Lists.{some_outside, is_live}
@@ -31,6 +32,6 @@ unfoldable pub good_steps : Family → ℕ → List Bool → List Step → List 
 good_steps f k marks earlier [] = []
 good_steps f k marks earlier (step ∷ steps) = cond (is_good f k marks earlier step) (step ∷ good_steps f k marks (earlier ++ step ∷ []) steps) []
 
--- what a check comes to: the first bad step's number, and the marks once the steps before it are made
+-- what a check comes to: the first bad step, if there is one, and the marks once the steps before it are made
 abbrev pub validated_of : Family → ℕ → List Bool → List Step → Validated
-validated_of f k marks plan = record { bad = first_bad f k marks plan; live = marks_after marks (good_steps f k marks [] plan) }
+validated_of f k marks plan = record { bad = numbered (first_bad f k marks plan); live = marks_after marks (good_steps f k marks [] plan) }

@@ -20,8 +20,8 @@ xor_by_chunks-requires c =
     let p = block_parts (c.requires.in_buffer, c.requires.fact) in
     record { le_len = search rules; len_in_bounds = p.0; fact = p.1 }
 
-pub returns : goal.returns
+pub returns-else-len-lt64 : goal.returns-else-len-lt64
 unfolding block_of
-returns c =
+returns-else-len-lt64 c =
     let g = c.args in
     rw c.xor_by_chunks.ensures (put_block g.len g.nodes.now g.j _)

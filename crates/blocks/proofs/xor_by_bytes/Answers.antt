@@ -1,5 +1,4 @@
 -- `blocks::xor_by_bytes` meets its contract: the bytes done so far are those of the XOR of the parts as they were at entry, which no byte that is put touches.
-use Prim.Native.Nat.{◌-◌}
 use native.Mathlib.Omega.{arith}
 use Rattle.blocks.proofs.PartLaws.{xor_byte, xor_done}
 use Rattle.blocks.proofs.xor_by_bytes.Goals as goal

@@ -1,8 +1,6 @@
 -- `blocks::xor_chunk` meets its contract: before turn i the first i bytes are those of the XOR.
 use mathlib.Core.Path.{sym, ◌∙◌}
-use Prim.Native.Nat.{◌-◌}
 use native.Mathlib.Omega.{arith}
-use borrow.Author.Rules.{rules}
 use Rattle.blocks.specs.Blocks.{xor_bytes}
 use Rattle.base.proofs.Fill.{fill_more, fill_done}
 use Rattle.blocks.proofs.XorBytes.{length-xor_bytes, get_or-xor_bytes}
@@ -13,10 +11,10 @@ loop-i-preserved c =
     let l = c.loop-i in
     let g = c.args in
     let h = length-xor_bytes g.a.now g.b.now (omega arith) in
-    (search rules, rw l.invariant.1 (fill_more (xor_bytes g.a.now g.b.now) _ l.i 0 (omega arith) (omega arith) (sym (get_or-xor_bytes g.a.now g.b.now l.i (omega arith) (omega arith)))))
+    rw l.invariant (fill_more (xor_bytes g.a.now g.b.now) _ l.i 0 (omega arith) (omega arith) (sym (get_or-xor_bytes g.a.now g.b.now l.i (omega arith) (omega arith))))
 
 pub returns : goal.returns
 returns c =
     let g = c.args in
     let h = length-xor_bytes g.a.now g.b.now (omega arith) in
-    c.loop-i.invariant.1 ∙ fill_done (xor_bytes g.a.now g.b.now) _ c.loop-i.i (omega arith) (omega arith)
+    c.loop-i.invariant ∙ fill_done (xor_bytes g.a.now g.b.now) _ c.loop-i.i (omega arith) (omega arith)

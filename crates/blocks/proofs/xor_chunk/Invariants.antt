@@ -1,13 +1,8 @@
 -- `blocks::xor_chunk` meets its contract: before turn i the first i bytes are those of the XOR.
 use mathlib.Core.Path.{◌≡◌}
-use Prim.Native.Nat.{◌-◌}
-use lib.ListN.{length}
 use Rattle.blocks.specs.Blocks.{xor_bytes}
 use Rattle.base.proofs.Fill.{filled}
 use Rattle.blocks.proofs.xor_chunk.Given as goal
 
 abbrev pub invariant-loop-i : goal.invariant-loop-i
-invariant-loop-i l = (length l.chunk ≡ 64) × (l.chunk ≡ filled (xor_bytes l.a l.b) l.initial.chunk l.i)
-
-abbrev pub decreases-loop-i : goal.decreases-loop-i
-decreases-loop-i l = 64 - l.i
+invariant-loop-i l = l.chunk ≡ filled (xor_bytes l.a l.b) l.initial.chunk l.i

@@ -1,20 +1,15 @@
--- `counts::sum` meets its contract: before each turn the sum so far and that of the counts to come make the whole.
-use Prim.Native.Nat.{◌-◌}
-use lib.ListN.{get_or}
-use mir.Syntax.{w16}
-use mir.Val.{Fits}
-use native.Mathlib.Numerals.{add-one}
-use native.Mathlib.Omega.{arith}
-use borrow.Author.Rules.{rules}
-use Rattle.counts.proofs.Laws.{sum_step, sum_end}
+-- `counts::sum` meets its contract: it sums each count, and 256 counts of 16 bits are within 32 bits.
+use mathlib.Core.Path.{◌≡◌, sym, ◌∙◌}
+use Rattle.std.proofs.Common.{rules, sum}
+use Rattle.std.proofs.iter.runs.Made.{chains}
+use Rattle.std.proofs.iter.runs.Sources.{sums}
+use Rattle.counts.proofs.Laws.{sum_is}
 use Rattle.counts.proofs.sum.Goals as goal
 
-pub loop-j-preserved : goal.loop-j-preserved
-loop-j-preserved c =
-    let w : Fits w16 (get_or c.args.counts c.loop-j.j 0) = search rules in
-    let more = sum_step c.args.counts c.loop-j.j (search rules) in
-    (omega arith, omega (arith, w.fits), rw add-one (omega (arith, more, c.loop-j.invariant.2)))
+pub sum-requires-clause-fits : goal.sum-requires-clause-fits
+sum-requires-clause-fits c = search (rules, sums)
 
 pub returns : goal.returns
 returns c =
-    omega (arith, c.loop-j.invariant.2, sum_end c.args.counts c.loop-j.j (search rules))
+    let s : c.sum.result ≡ sum c.args.counts = search (rules, chains) in
+    s ∙ sym (sum_is c.args.counts)

@@ -1,35 +1,35 @@
 -- `encoding::encode` meets its contract: a refusal leaves the nodes buffer alone, and an accepted call fills all of it.
-use mathlib.Core.Path.{◌≡◌, sym, ◌∙◌, ap, subst}
-use Prim.Native.Nat.{◌*◌}
-use Rattle.families.specs.declared.Family.{Family}
-use Rattle.families.specs.Families.{KInRange, node_count}
-use Rattle.encoding.specs.Matrix.{nodes_buffer}
+use mathlib.Core.Path.{sym, ◌∙◌}
+use Rattle.checks.proofs.RefusalLaws.{refused, passed_on}
 use Rattle.encoding.specs.Encode.{encode_answer}
 use Rattle.encoding.proofs.Answers.{kept, written, accepted_call}
 use Rattle.encoding.proofs.encode.Goals as goal
-use Rattle.encoding.proofs.encode.Goals.{Else-bad-ne0}
 
--- the call is accepted
-answer : (c : Else-bad-ne0) → encode_answer c.args.family c.args.k c.args.len c.args.object.now c.args.nodes.now ≡ 0
+pub returns-in_err-code-clause-value : goal.returns-in_err-code-clause-value
 unfolding encode_answer
-answer c = sym c.encode_refusal-bad.ensures ∙ c.if-bad-ne0.false
+returns-in_err-code-clause-value c =
+    passed_on _ _ c.from_residual.ensures.1 ∙ c.in_err-code.ensures.number
 
-pub returns-then-bad-ne0 : goal.returns-then-bad-ne0
+pub returns-in_err-code-clause-nodes_after : goal.returns-in_err-code-clause-nodes_after
 unfolding encode_answer
-returns-then-bad-ne0 c =
+returns-in_err-code-clause-nodes_after c =
     let g = c.args in
-    let e = c.encode_refusal-bad.ensures in
-    record { value = e; nodes_after = kept g.family g.k g.len g.object.now g.nodes.now (λ z. c.if-bad-ne0.true (e ∙ z)) }
+    kept g.family g.k g.len g.object.now g.nodes.now (λ z. refused _ (c.in_err-code.ensures.number ∙ z))
 
 pub encode_nodes-requires : goal.encode_nodes-requires
+unfolding encode_answer
 encode_nodes-requires c =
     let g = c.args in
-    let a = accepted_call g.family g.k g.len g.object.now g.nodes.now (answer (goal.at.encode_nodes-requires c).Else-bad-ne0) in
-    let f = sym c.family_of.ensures in
-    record { kin_range = subst (λ (x : Family). KInRange x g.k) f a.range.blocks; object_len = (a.first, a.second ∙ ap (λ (x : Family). node_count x g.k * g.len) f) }
+    let p = c.in_ok-code.ensures.code in
+    let a = accepted_call g.family g.k g.len g.object.now g.nodes.now (sym c.in_ok-code.ensures.number) in
+    rw (p.family_is, p.k_is) (a.first, a.second)
 
 pub returns : goal.returns
+unfolding encode_answer
 returns c =
     let g = c.args in
-    let e = answer (goal.at.returns c).Else-bad-ne0 in
-    record { value = sym e; nodes_after = c.encode_nodes.ensures ∙ ap (λ (x : Family). nodes_buffer x g.k g.len g.object.now) c.family_of.ensures ∙ written g.family g.k g.len g.object.now g.nodes.now e }
+    let p = c.in_ok-code.ensures.code in
+    record {
+      value = c.in_ok-code.ensures.number;
+      nodes_after = c.encode_nodes.ensures ∙ rw (p.family_is, p.k_is) (written g.family g.k g.len g.object.now g.nodes.now (sym c.in_ok-code.ensures.number));
+    }

@@ -1,19 +1,15 @@
--- `lists::some_missing` meets its contract: before each turn a node of the list is missing exactly when one of those left is.
+-- `lists::some_missing` meets its contract: it asks of each number whether its mark is missing.
 use mathlib.Core.Path.{sym, ◌∙◌}
-use Prim.Native.Nat.{◌-◌}
-use native.Mathlib.Omega.{arith}
-use Rattle.lists.proofs.Walks.{missing_step, missing_end}
+use mathlib.Core.Bool.{not}
+use borrow.Author.Tests.{tests}
+use Rattle.std.proofs.Common.{rules}
+use Rattle.std.proofs.lemmas.Iterator.{YieldsList-from_slice}
+use Rattle.std.proofs.lemmas.Iterator.Search.{any_from_yields_List}
+use Rattle.lists.specs.Lists.{is_live}
+use Rattle.lists.proofs.Walks.{missing_any}
 use Rattle.lists.proofs.some_missing.Goals as goal
 
-pub returns-then-not-marks-j : goal.returns-then-not-marks-j
-returns-then-not-marks-j c =
-    let i = rw c.wide-j.ensures at c.if-not-marks-j.true in
-    sym (c.loop-i.invariant ∙ missing_step c.args.list.now c.loop-i.i (omega arith) c.args.marks.now ∙ simp i)
-
-pub loop-i-preserved : goal.loop-i-preserved
-loop-i-preserved c =
-    let i = rw c.wide-j.ensures at c.if-not-marks-j.false in
-    c.loop-i.invariant ∙ missing_step c.args.list.now c.loop-i.i (omega arith) c.args.marks.now ∙ simp i
-
 pub returns : goal.returns
-returns c = sym (c.loop-i.invariant ∙ missing_end _ _ c.loop-i-test.false _)
+returns c =
+    any_from_yields_List (λ j. not (is_live c.args.marks.now j)) _ _ c.any.result c.any.ensures.ran (YieldsList-from_slice c.args.list.now cc) (λ x b q k. search (rules, tests))
+    ∙ sym (missing_any c.args.marks.now c.args.list.now)

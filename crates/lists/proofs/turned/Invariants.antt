@@ -1,12 +1,8 @@
 -- `lists::turned` meets its contract: before each turn the marks before j are turned round.
 use mathlib.Core.Path.{◌≡◌}
-use Prim.Native.Nat.{◌-◌, ◌≤◌}
 use Rattle.base.proofs.Fill.{filled}
 use Rattle.lists.specs.Inner.{turned_round}
 use Rattle.lists.proofs.turned.Given as goal
 
 abbrev pub invariant-loop-j : goal.invariant-loop-j
-invariant-loop-j l = (l.j ≤ 256) × (l.other ≡ filled (turned_round l.marks) l.initial.other l.j)
-
-abbrev pub decreases-loop-j : goal.decreases-loop-j
-decreases-loop-j l = 256 - l.j
+invariant-loop-j l = l.other ≡ filled (turned_round l.marks) l.initial.other l.j

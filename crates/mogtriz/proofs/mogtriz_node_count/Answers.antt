@@ -1,14 +1,13 @@
 -- `mogtriz::mogtriz_node_count` meets its contract: refusals 1 and 2 are asked for with an L that is in range.
 use mathlib.Core.Path.{sym, ◌∙◌}
-use Rattle.checks.proofs.Laws.{in_range}
+use Rattle.checks.proofs.RefusalLaws.{refused}
 use Rattle.mogtriz.proofs.Laws.{count_refused, count_accepted}
 use Rattle.mogtriz.proofs.mogtriz_node_count.Goals as goal
 
-pub returns-then-parameter_refusal-ne0 : goal.returns-then-parameter_refusal-ne0
-returns-then-parameter_refusal-ne0 c = sym (count_refused _ _ (rw c.parameter_refusal.ensures at c.if-parameter_refusal-ne0.true))
+pub returns-in-Ok : goal.returns-in-Ok
+returns-in-Ok c =
+    let p = c.in-Ok.ensures.code in
+    c.node_count.ensures ∙ rw (p.family_is, p.k_is) (sym (count_accepted _ _ (sym c.in-Ok.ensures.number)))
 
-pub node_count_of-requires : goal.node_count_of-requires
-node_count_of-requires c = (in_range _ _ 1 (sym c.parameter_refusal.ensures ∙ c.if-parameter_refusal-ne0.false)).blocks
-
-pub returns : goal.returns
-returns c = c.node_count_of.ensures ∙ sym (count_accepted _ _ (sym c.parameter_refusal.ensures ∙ c.if-parameter_refusal-ne0.false))
+pub returns-in-Err : goal.returns-in-Err
+returns-in-Err c = sym (count_refused _ _ (λ z. refused _ (c.in-Err.ensures.number ∙ z)))

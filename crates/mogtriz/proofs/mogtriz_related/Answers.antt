@@ -1,48 +1,52 @@
 -- `mogtriz::mogtriz_related` meets its contract: where the three numbers are nodes', the family and k are in range.
-use mathlib.Core.Path.{◌≡◌, sym, ◌∙◌}
-use mathlib.Core.Bool.{true}
-use Rattle.families.specs.Families.{family_of, are_related}
-use Rattle.mogtriz.specs.Exports.{is_node, related_or0}
-use Rattle.mogtriz.proofs.Laws.{node}
+use mathlib.Core.Path.{◌≡◌, refl, sym, ◌∙◌}
+use mathlib.Core.Bool.{Bool, true, false, cond}
+use mir.Val.{bool_byte}
+use Rattle.checks.proofs.RefusalLaws.{refused}
+use Rattle.mogtriz.specs.Exports.{related_or0}
+use Rattle.mogtriz.proofs.Laws.{node, no_node}
 use Rattle.mogtriz.proofs.mogtriz_related.Goals as goal
-use Rattle.mogtriz.proofs.mogtriz_related.Goals.{After-related, Else-not-is_node-2, Else-not-is_node-3}
 
--- two of the numbers are nodes, and then all three
-two : (c : Else-not-is_node-2) → let g = c.args in (is_node g.family g.k g.a ≡ true) × (is_node g.family g.k g.b ≡ true)
-two c = (sym c.is_node.ensures ∙ c.if-not-is_node.false, sym c.is_node-2.ensures ∙ c.if-not-is_node-2.false)
+bit : (b : Bool) → bool_byte b ≡ cond b 1 0
+bit true = refl
+bit false = refl
 
-three : (c : Else-not-is_node-3) → let g = c.args in (is_node g.family g.k g.a ≡ true) × (is_node g.family g.k g.b ≡ true) × (is_node g.family g.k g.c ≡ true)
-three c = ((two c.before.before).0, (two c.before.before).1, sym c.is_node-3.ensures ∙ c.if-not-is_node-3.false)
+pub related-requires-clause-first : goal.related-requires-clause-first
+related-requires-clause-first c =
+    let p = c.in-Ok.ensures.code in
+    rw (p.family_is, p.k_is) (node _ _ _ (sym c.is_node.ensures ∙ c.if-is_node.true)).is_node
 
-is_related : (c : After-related) → let g = c.args in are_related (family_of g.family) g.k g.a g.b g.c ≡ c.related.result
-is_related c = sym (rw c.family_of.ensures at c.related.ensures)
+pub related-requires-clause-second : goal.related-requires-clause-second
+related-requires-clause-second c =
+    let p = c.in-Ok.ensures.code in
+    rw (p.family_is, p.k_is) (node _ _ _ (sym c.is_node-then-is_node.ensures ∙ c.if-is_node-2.true)).is_node
 
-pub returns-then-not-is_node : goal.returns-then-not-is_node
+pub related-requires-clause-third : goal.related-requires-clause-third
+related-requires-clause-third c =
+    let p = c.in-Ok.ensures.code in
+    rw (p.family_is, p.k_is) (node _ _ _ (sym c.is_node-then-is_node-2.ensures ∙ c.if-is_node-3.true)).is_node
+
+pub returns-in-Ok : goal.returns-in-Ok
 unfolding related_or0
-returns-then-not-is_node c = simp (sym c.is_node.ensures ∙ c.if-not-is_node.true)
+returns-in-Ok c =
+    let p = c.in-Ok.ensures.code in
+    rw (sym c.is_node.ensures ∙ c.if-is_node.true, sym c.is_node-then-is_node.ensures ∙ c.if-is_node-2.true, sym c.is_node-then-is_node-2.ensures ∙ c.if-is_node-3.true, sym (rw (p.family_is, p.k_is) at c.related.ensures), c.from.ensures) (bit c.related.result)
 
-pub returns-then-not-is_node-2 : goal.returns-then-not-is_node-2
+pub returns-in_default : goal.returns-in_default
 unfolding related_or0
-returns-then-not-is_node-2 c = simp (sym c.is_node.ensures ∙ c.if-not-is_node.false, sym c.is_node-2.ensures ∙ c.if-not-is_node-2.true)
+returns-in_default c =
+    simp (sym c.is_node.ensures ∙ c.if-is_node.true, sym c.is_node-then-is_node.ensures ∙ c.if-is_node-2.true, sym c.is_node-then-is_node-2.ensures ∙ c.if-is_node-3.false)
 
-pub returns-then-not-is_node-3 : goal.returns-then-not-is_node-3
+pub returns-in_default-2 : goal.returns-in_default-2
 unfolding related_or0
-returns-then-not-is_node-3 c = simp ((two (goal.at.returns-then-not-is_node-3 c).Else-not-is_node-2).0, (two (goal.at.returns-then-not-is_node-3 c).Else-not-is_node-2).1, sym c.is_node-3.ensures ∙ c.if-not-is_node-3.true)
+returns-in_default-2 c = simp (sym c.is_node.ensures ∙ c.if-is_node.true, sym c.is_node-then-is_node.ensures ∙ c.if-is_node-2.false)
 
-pub returns-then-related : goal.returns-then-related
+pub returns-in_default-3 : goal.returns-in_default-3
 unfolding related_or0
-returns-then-related c =
-    let m = three (goal.at.returns-then-related c).Else-not-is_node-3 in
-    simp (m.0, m.1, m.2, is_related (goal.at.returns-then-related c).After-related ∙ c.if-related.true)
+returns-in_default-3 c = simp (sym c.is_node.ensures ∙ c.if-is_node.false)
 
-pub returns : goal.returns
+pub returns-in_default-4 : goal.returns-in_default-4
 unfolding related_or0
-returns c =
-    let m = three (goal.at.returns c).Else-not-is_node-3 in
-    simp (m.0, m.1, m.2, is_related (goal.at.returns c).After-related ∙ c.if-related.false)
-
-pub related-requires : goal.related-requires
-related-requires c =
-    let m = three (goal.at.related-requires c).Else-not-is_node-3 in
-    let a = node _ _ _ m.0 in
-    rw c.family_of.ensures (record { kin_range = a.range; node = a.is_node; node_2 = (node _ _ _ m.1).is_node; node_3 = (node _ _ _ m.2).is_node })
+returns-in_default-4 c =
+    let g = c.args in
+    simp (no_node g.family g.k g.a (λ z. refused _ (c.in_default.ensures.number ∙ z)))

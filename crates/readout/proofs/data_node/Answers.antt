@@ -9,6 +9,6 @@ pub returns : goal.returns
 returns c =
     let g = c.args in
     let p = c.requires in
-    let e = c.node_of.ensures ∙ ap (node_of g.family g.k) c.power.ensures in
-    let d = data_node_lem g.family g.k g.i p.0 p.1 p.2 in
+    let e = c.node_of.ensures ∙ ap (node_of g.code.family g.code.k) c.power.ensures in
+    let d = data_node_lem g.code.family g.code.k g.i g.code.in_range p.0 p.1 in
     (e, omega (arith, e, d.is_node.first), omega (arith, e, d.is_node.last))

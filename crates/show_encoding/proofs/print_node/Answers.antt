@@ -3,6 +3,6 @@ use Rattle.std.proofs.Common.{arith}
 use Rattle.families.specs.Families.{node_count}
 use Rattle.show_encoding.proofs.print_node.Goals as goal
 
-pub column-requires-clause-node : goal.column-requires-clause-node
+pub column-requires : goal.column-requires
 unfolding node_count
-column-requires-clause-node g c = record { first = omega arith; last = omega arith }
+column-requires g c = record { first = omega arith; last = omega arith }

@@ -1,13 +1,8 @@
--- `transposition::by_tiles` meets its contract: before each turn the rows that are done are right.
-use mathlib.Core.Path.{◌≡◌}
-use Prim.Native.Nat.{◌-◌, ◌≤◌}
-use lib.ListN.{length}
+-- `transposition::by_tiles` meets its contract: before turn t the rows that t tiles cover are right.
+use Prim.Native.Nat.{◌^◌}
 use Rattle.transposition.specs.Inner.{transposed}
-use Rattle.transposition.proofs.MatrixLaws.{RowsRight}
+use Rattle.transposition.proofs.MatrixLaws.{RowsRight, covered}
 use Rattle.transposition.proofs.by_tiles.Given as goal
 
-abbrev pub invariant-loop-done : goal.invariant-loop-done
-invariant-loop-done l = (l.done ≤ l.rows) × (length l.dst ≡ length l.initial.dst) × RowsRight (transposed l.rows l.columns l.src) l.dst l.rows l.columns l.done
-
-abbrev pub decreases-loop-done : goal.decreases-loop-done
-decreases-loop-done l = l.rows - l.done
+abbrev pub invariant-loop-t : goal.invariant-loop-t
+invariant-loop-t g l = RowsRight (transposed l.rows l.columns l.src) l.dst l.rows l.columns (covered l.t (2 ^ g.row.LOG) l.rows)

@@ -1,7 +1,6 @@
 -- `transposition::copy_strided` meets its contract: before turn i the buffer has neared each goal by the first i bytes.
-use Prim.Native.Nat.{◌+◌, ◌-◌, ◌*◌, ◌<◌}
+use Prim.Native.Nat.{◌+◌, ◌*◌, ◌<◌}
 use native.Mathlib.Omega.{arith}
-use borrow.Author.Rules.{rules}
 use lib.ListN.{length}
 use Rattle.transposition.proofs.NearLaws.{near_byte}
 use Rattle.transposition.proofs.copy_strided.Goals as goal
@@ -14,4 +13,4 @@ pub loop-i-preserved : goal.loop-i-preserved
 loop-i-preserved c =
     let w = c.loop-i.invariant in
     let h = writes (goal.at.loop-i-preserved c).In-loop-i in
-    (omega arith, search rules, record { nears = λ goal e. near_byte (w.2.nears goal (λ i l. e i (omega arith))) _ h (e c.loop-i.i (omega arith)) })
+    record { nears = λ goal e. near_byte (w.nears goal (λ i l. e i (omega arith))) _ h (e c.loop-i.i (omega arith)) }

@@ -1,11 +1,10 @@
 -- `transposition::load` meets its contract: before turn i the first i rows are in place.
 use mathlib.Core.Path.{◌≡◌, ◌∙◌}
-use Prim.Native.Nat.{◌+◌, ◌-◌, ◌*◌, ◌≤◌}
+use Prim.Native.Nat.{◌+◌, ◌*◌, ◌≤◌}
 use native.Mathlib.Nat.{add-sub_cancel_left}
 use native.Mathlib.Omega.{arith}
 use borrow.Rule.Slice.PartMut.{mid_of}
 use lib.ListN.{length}
-use Rattle.blocks.proofs.PartLaws.{length_mid, length_put}
 use Rattle.transposition.proofs.Places.{row_end}
 use Rattle.transposition.proofs.TileLaws.{loaded_more}
 use Rattle.transposition.proofs.load.Goals as goal
@@ -21,11 +20,7 @@ pub loop-i-preserved : goal.loop-i-preserved
 loop-i-preserved c =
     let g = c.args in
     let at = g.from + c.loop-i.i * g.from_stride in
-    let v : c.copy_by_bytes.new.dst ≡ mid_of at g.size g.src.now = c.copy_by_bytes.ensures ∙ rw (add-sub_cancel_left at g.size) in
+    let v : c.copy_from_slice.new.self ≡ mid_of at g.size g.src.now = c.copy_from_slice.ensures.after ∙ rw (add-sub_cancel_left at g.size) in
     let p = piece (goal.at.loop-i-preserved c).In-loop-i in
     let r : c.loop-i.i * g.size + g.size ≤ length c.loop-i.tile = omega (arith, row (goal.at.loop-i-preserved c).In-loop-i) in
-    rw (add-sub_cancel_left (c.loop-i.i * g.size) g.size, v) (
-      omega arith,
-      length_put c.loop-i.tile (mid_of at g.size g.src.now) (c.loop-i.i * g.size) g.size r (length_mid g.src.now at g.size p) ∙ c.loop-i.invariant.1,
-      loaded_more p r c.loop-i.invariant.2,
-    )
+    rw (add-sub_cancel_left (c.loop-i.i * g.size) g.size, v) (loaded_more p r c.loop-i.invariant)

@@ -1,8 +1,7 @@
 -- `transposition::shuffle` meets its contract: before turn i the first 2 × i bytes are those of the transpose.
 use mathlib.Core.Path.{◌≡◌, sym, ◌∙◌}
-use Prim.Native.Nat.{ℕ, ◌+◌, ◌-◌, ◌*◌, ◌<◌}
+use Prim.Native.Nat.{ℕ, ◌+◌, ◌*◌, ◌<◌}
 use native.Mathlib.Omega.{arith}
-use borrow.Author.Rules.{rules}
 use mathlib.Core.List.{List}
 use lib.ListN.{length, get_or, set}
 use Rattle.base.proofs.Fill.{filled, fill_more, fill_done}
@@ -22,11 +21,8 @@ loop-i-preserved c =
     let l = length-transposed 2 64 tile in
     let first : get_or tile i 0 ≡ get_or goal (2 * i) 0 = sym (rw (even i, start i) at (transposed_at 2 64 tile 0 i (omega arith) (omega arith))) in
     let second : get_or tile (64 + i) 0 ≡ get_or goal (2 * i + 1) 0 = sym (rw (odd i) at (transposed_at 2 64 tile 1 i (omega arith) (omega arith))) in
-    let next : 2 * (i + 1) ≡ 2 * i + 1 + 1 = omega arith in (
-      omega arith,
-      search rules,
-      rw (c.loop-i.invariant.2, next) (fill_two goal _ (2 * i) (omega arith) (omega arith) first second),
-    )
+    let next : 2 * (i + 1) ≡ 2 * i + 1 + 1 = omega arith in
+    rw (c.loop-i.invariant, next) (fill_two goal _ (2 * i) (omega arith) (omega arith) first second)
   where
     even : (i : ℕ) → i * 2 + 0 ≡ 2 * i
     even i = omega arith
@@ -40,4 +36,4 @@ loop-i-preserved c =
 pub returns : goal.returns
 returns c =
     let tile = c.args.tile in
-    c.loop-i.invariant.2 ∙ fill_done (transposed 2 64 tile) _ (2 * c.loop-i.i) (length-transposed 2 64 tile) (omega arith)
+    c.loop-i.invariant ∙ fill_done (transposed 2 64 tile) _ (2 * c.loop-i.i) (length-transposed 2 64 tile) (omega arith)

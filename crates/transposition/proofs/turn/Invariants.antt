@@ -1,11 +1,8 @@
--- `transposition::turn` meets its contract: after i shuffles the tile is the transpose of 2^i rows.
+-- `transposition::turn` meets its contract: after so many shuffles the tile is the transpose of 2 to that power of rows.
 use mathlib.Core.Path.{◌≡◌}
-use Prim.Native.Nat.{◌-◌, ◌^◌, ◌≤◌}
+use Prim.Native.Nat.{◌-◌, ◌^◌}
 use Rattle.transposition.specs.Inner.{transposed}
 use Rattle.transposition.proofs.turn.Given as goal
 
-abbrev pub invariant-loop-i : goal.invariant-loop-i
-invariant-loop-i l = (l.i ≤ l.log) × (l.turned ≡ transposed (2 ^ l.i) (2 ^ (7 - l.i)) l.initial.turned)
-
-abbrev pub decreases-loop-i : goal.decreases-loop-i
-decreases-loop-i l = l.log - l.i
+abbrev pub invariant-loop : goal.invariant-loop
+invariant-loop g l = l.turned ≡ transposed (2 ^ l.counter) (2 ^ (7 - l.counter)) l.initial.turned

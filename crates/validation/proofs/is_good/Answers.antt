@@ -1,44 +1,41 @@
 -- `validation::is_good` meets its contract: its tests are those of the definition, one by one.
-use mathlib.Core.Path.{◌≡◌, sym, ap, ap₂, ◌∙◌}
+use mathlib.Core.Path.{◌≡◌, sym, ◌∙◌}
+use mathlib.Core.Bool.{Bool, not, ◌&&◌}
+use mathlib.Core.List.{List}
+use Prim.Native.Nat.{ℕ, ◌-◌}
 use borrow.Author.Rules.{part_to_end}
-use lib.ListN.{drop}
+use lib.ListN.{length, get_or, take, drop}
+use Rattle.families.specs.declared.Family.{Family}
 use Rattle.families.specs.Families.{node_count}
 use Rattle.lists.specs.Lists.{some_outside}
 use Rattle.planning.specs.Made.{step_of_bytes}
 use Rattle.validation.specs.Good.{follows}
-use Rattle.validation.specs.Inner.{good_by}
+use Rattle.validation.specs.Inner.{good_by, serves}
 use Rattle.validation.proofs.ByteLaws.{three_bytes}
-use Rattle.validation.proofs.GoodLaws.{numbers}
 use Rattle.validation.proofs.is_good.Goals as goal
-use Rattle.validation.proofs.is_good.Goals.{After-round_follows, After-some_outside}
+use Rattle.validation.proofs.is_good.Goals.{then-round_follows, else-round_follows}
 
--- ---- what is known there
-
-round_test : (c : After-round_follows) → let g = c.args in c.round_follows.result ≡ follows g.last (step_of_bytes g.step.now).round
-round_test c = c.round_follows.ensures ∙ ap (follows c.args.last) c.wide.ensures
-
-outside_test : (c : After-some_outside) → let g = c.args in c.some_outside.result ≡ some_outside (node_count g.family g.k) (drop 1 g.step.now)
-outside_test c = c.some_outside.ensures ∙ ap₂ some_outside c.node_count-n.ensures (part_to_end c.args.step.now 1)
-
-three : (c : After-some_outside) → let g = c.args in drop 1 g.step.now ≡ numbers g.family g.k (step_of_bytes g.step.now)
-three c = three_bytes c.args.step.now c.requires.2
-
-pub returns-then-not-round_follows : goal.returns-then-not-round_follows
+-- the three tests, on a step of four bytes
+tests : (f : Family) (k last : ℕ) (live free : List Bool) (bytes : List ℕ) {n round : ℕ} {follow : Bool} → length bytes ≡ 4
+    → n ≡ node_count f k → round ≡ get_or bytes 0 0 → follow ≡ follows last round
+    → good_by f k last live free (step_of_bytes bytes) ≡ follow && (not (some_outside n (take (length bytes - 1) (drop 1 bytes))) && serves f k live free (step_of_bytes bytes))
 unfolding good_by
-returns-then-not-round_follows c =
-    let a : After-round_follows = (goal.at.returns-then-not-round_follows c).After-round_follows in
-    sym (rw (← round_test a, c.if-not-round_follows.true))
+tests f k last live free bytes l en er ef = rw (ef, er, en, part_to_end bytes 1, three_bytes bytes l)
 
-pub returns-then-some_outside : goal.returns-then-some_outside
-unfolding good_by
-returns-then-some_outside c =
-    let a : After-round_follows = (goal.at.returns-then-some_outside c).After-round_follows in
-    let o : After-some_outside = (goal.at.returns-then-some_outside c).After-some_outside in
-    sym (rw (← round_test a, c.if-not-round_follows.false, ← three o, ← outside_test o, c.if-some_outside.true))
+pub returns-then-not-some_outside : goal.returns-then-not-some_outside
+returns-then-not-some_outside c =
+    let g = c.args in
+    let t = tests g.columns.now.code.family g.columns.now.code.k g.last g.live.now g.free.now g.step.now c.requires c.node_count-n.ensures c.from.ensures c.round_follows.ensures in
+    elim c.if-round_follows.branch [
+      | then-round_follows w ↦ c.pair_serves.ensures ∙ sym (t ∙ rw (w.if-round_follows.true, ← w.some_outside.ensures, ← w.value-is, c.if-not-some_outside.true))
+      | else-round_follows w ↦ cc
+    ]
 
-pub returns : goal.returns
-unfolding good_by
-returns c =
-    let a : After-round_follows = (goal.at.returns c).After-round_follows in
-    let o : After-some_outside = (goal.at.returns c).After-some_outside in
-    c.pair_serves.ensures ∙ sym (rw (← round_test a, c.if-not-round_follows.false, ← three o, ← outside_test o, c.if-some_outside.false))
+pub returns-else-not-some_outside : goal.returns-else-not-some_outside
+returns-else-not-some_outside c =
+    let g = c.args in
+    let t = tests g.columns.now.code.family g.columns.now.code.k g.last g.live.now g.free.now g.step.now c.requires c.node_count-n.ensures c.from.ensures c.round_follows.ensures in
+    elim c.if-round_follows.branch [
+      | then-round_follows w ↦ c.if-not-some_outside.false ∙ sym (t ∙ rw (w.if-round_follows.true, ← w.some_outside.ensures, ← w.value-is, c.if-not-some_outside.false))
+      | else-round_follows w ↦ c.if-not-some_outside.false ∙ sym (t ∙ rw w.if-round_follows.false)
+    ]

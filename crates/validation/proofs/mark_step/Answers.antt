@@ -5,4 +5,4 @@ use Rattle.validation.proofs.mark_step.Goals as goal
 pub returns : goal.returns
 unfolding once
 returns c =
-    rw (c.wide.ensures, c.wide-2.ensures, c.wide-3.ensures) search
+    rw (c.from.ensures, c.from-2.ensures, c.from-3.ensures) search

@@ -9,12 +9,12 @@ loop-i-init c = check_none
 
 pub returns-then-not-is_good : goal.returns-then-not-is_good
 returns-then-not-is_good c =
-    check_bad c.loop-i.invariant (omega arith) c.wide-round.result _ c.wide-round.ensures c.enter_round.ensures (sym c.is_good.ensures ∙ c.if-not-is_good.true)
+    rw (← c.new-columns.ensures) (check_bad c.loop-i.invariant (omega arith) c.from-round.result _ c.from-round.ensures c.enter_round.ensures (sym c.is_good.ensures ∙ c.if-not-is_good.true))
 
 pub loop-i-preserved : goal.loop-i-preserved
 loop-i-preserved c =
     rw (c.mark_step.ensures.live_after, c.mark_step.ensures.free_after)
-    (check_more c.loop-i.invariant (omega arith) c.wide-round.result _ c.wide-round.ensures c.enter_round.ensures (sym c.is_good.ensures ∙ c.if-not-is_good.false))
+    (check_more c.loop-i.invariant (omega arith) c.from-round.result _ c.from-round.ensures c.enter_round.ensures (sym c.is_good.ensures ∙ c.if-not-is_good.false))
 
 pub returns : goal.returns
-returns c = check_done c.loop-i.invariant (omega arith)
+returns c = rw (← c.new-columns.ensures) (check_done c.loop-i.invariant (omega arith))

@@ -1,5 +1,5 @@
--- `families::pairs::columns` meets its contract: before each turn the table has the columns as far as node j, and `pair` is
--- the pair of the node after it.
+-- `families::pairs::columns` meets its contract: before each turn the table has the columns of the nodes before a place, and `pair`
+-- is the pair of the node at it.
 use mathlib.Core.Path.{◌≡◌, refl, sym, ◌∙◌, ap, ap₂}
 use mathlib.Core.Bool.{Bool, true, false, cond}
 use Prim.Native.Nat.{ℕ, suc, ◌+◌, ◌-◌, ◌≤◌, ◌<◌}
@@ -15,7 +15,7 @@ use Rattle.families.specs.declared.Family.TheVariants.{WeightTwo}
 use Rattle.families.specs.declared.pairs.Pair.{Pair}
 use native.Mathlib.Omega.{arith}
 use Rattle.families.proofs.pairs.columns.Goals as goal
-use Rattle.families.proofs.pairs.columns.Goals.{In-loop-j}
+use Rattle.families.proofs.pairs.columns.Goals.{In-loop-place}
 use Rattle.families.proofs.pairs.columns.Invariants.{Stands}
 
 first : (k : ℕ) → 1 ≤ k → Stands k 0 (record { smaller = 0; larger = 1 })
@@ -40,49 +40,49 @@ next_column : (k j : ℕ) (p : Pair) → j < node_count WeightTwo k → Stands k
 next_column k j p h s = let e : j + 1 - 1 ≡ j = omega arith in rw (column_at k (j + 1) (omega arith) (omega arith), e, s.smaller, s.larger)
 
 -- both numbers of the pair are at most 22
-small : (c : In-loop-j) → (c.loop-j.pair.smaller ≤ 22) × (c.loop-j.pair.larger ≤ 22)
+small : (c : In-loop-place) → (c.loop-place.pair.smaller ≤ 22) × (c.loop-place.pair.larger ≤ 22)
 small c =
-    let l = c.loop-j in
+    let l = c.loop-place in
     let k = c.args.k in
-    let s = l.invariant.1 c.loop-j-test.true in
-    let p : PairAt k l.j = pair_at_lem k l.j (omega (arith, c.count-n.ensures, pair_count k)) in
+    let s = l.invariant.1 c.loop-place-test.true in
+    let p : PairAt k l.place = pair_at_lem k l.place (omega (arith, c.count-n.ensures, pair_count k)) in
     (omega (arith, s.smaller, p.order, p.within, c.requires.most), omega (arith, s.larger, p.within, c.requires.most))
 
-pub loop-j-init : goal.loop-j-init
-loop-j-init c = ((omega arith, columns_none _ _), (λ h. first _ (omega (arith, c.requires.least))))
+pub loop-place-init : goal.loop-place-init
+loop-place-init c = (columns_none _ _, (λ h. first _ (omega (arith, c.requires.least))))
 
 pub unit_column-requires : goal.unit_column-requires
-unit_column-requires c = omega (arith, small (goal.at.unit_column-requires c).In-loop-j)
+unit_column-requires c = omega (arith, small (goal.at.unit_column-requires c).In-loop-place)
 
-pub unit_column-requires-in-loop-j : goal.unit_column-requires-in-loop-j
-unit_column-requires-in-loop-j c = omega (arith, small (goal.at.unit_column-requires-in-loop-j c).In-loop-j)
+pub unit_column-requires-in-loop-place : goal.unit_column-requires-in-loop-place
+unit_column-requires-in-loop-place c = omega (arith, small (goal.at.unit_column-requires-in-loop-place c).In-loop-place)
 
 pub overflow_add-table : goal.overflow_add-table
 overflow_add-table c =
-    let p = c.loop-j.pair in
-    let s = small (goal.at.overflow_add-table c).In-loop-j in
-    omega (arith, c.unit_column.ensures, c.unit_column-in-loop-j.ensures, unit_small p.smaller (omega (arith, s)), unit_small p.larger (omega (arith, s)))
+    let p = c.loop-place.pair in
+    let s = small (goal.at.overflow_add-table c).In-loop-place in
+    omega (arith, c.unit_column.ensures, c.unit_column-in-loop-place.ensures, unit_small p.smaller (omega (arith, s)), unit_small p.larger (omega (arith, s)))
 
-pub offset_bounds-table-j : goal.offset_bounds-table-j
-offset_bounds-table-j c = omega (arith, c.count-n.ensures, few WeightTwo _ c.requires)
+pub offset_bounds-table-place : goal.offset_bounds-table-place
+offset_bounds-table-place c = omega (arith, c.count-n.ensures, few WeightTwo _ c.requires)
 
-pub bounds-table-j : goal.bounds-table-j
-bounds-table-j c = omega (arith, c.count-n.ensures, few WeightTwo _ c.requires)
+pub bounds-table-place : goal.bounds-table-place
+bounds-table-place c = omega (arith, c.count-n.ensures, few WeightTwo _ c.requires)
 
 pub next_pair-pair-requires : goal.next_pair-pair-requires
-next_pair-pair-requires c = (omega (arith, small (goal.at.next_pair-pair-requires c).In-loop-j), omega (arith, small (goal.at.next_pair-pair-requires c).In-loop-j))
+next_pair-pair-requires c = (omega (arith, small (goal.at.next_pair-pair-requires c).In-loop-place), omega (arith, small (goal.at.next_pair-pair-requires c).In-loop-place))
 
-pub loop-j-preserved : goal.loop-j-preserved
-loop-j-preserved c =
-    let l = c.loop-j in
+pub loop-place-preserved : goal.loop-place-preserved
+loop-place-preserved c =
+    let l = c.loop-place in
     let g = c.args in
     let n = c.count-n.ensures in
-    let s = l.invariant.1 c.loop-j-test.true in
-    let v = ap₂ ◌+◌ c.unit_column.ensures c.unit_column-in-loop-j.ensures ∙ next_column g.k l.j l.pair (omega (arith, n)) s in
-    ((omega arith, rw l.invariant.0.1 (columns_more WeightTwo g.k l.j _ v)), (λ h. next g.k l.j l.pair _ (omega (arith, n, pair_count g.k, h)) s c.next_pair-pair.ensures))
+    let s = l.invariant.1 c.loop-place-test.true in
+    let v = ap₂ ◌+◌ c.unit_column.ensures c.unit_column-in-loop-place.ensures ∙ next_column g.k l.place l.pair (omega (arith, n)) s in
+    (rw l.invariant.0 (columns_more WeightTwo g.k l.place _ v), (λ h. next g.k l.place l.pair _ (omega (arith, n, pair_count g.k, h)) s c.next_pair-pair.ensures))
 
 pub returns : goal.returns
 returns c =
     let k = c.args.k in
-    let e : c.loop-j.j ≡ node_count WeightTwo k = omega (arith, c.count-n.ensures) in
-    c.loop-j.invariant.0.1 ∙ ap (columns_to WeightTwo k) e ∙ columns_all WeightTwo k
+    let e : c.loop-place.place ≡ node_count WeightTwo k = omega (arith, c.count-n.ensures) in
+    c.loop-place.invariant.0 ∙ ap (columns_to WeightTwo k) e ∙ columns_all WeightTwo k

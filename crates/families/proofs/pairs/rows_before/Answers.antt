@@ -12,8 +12,8 @@ count-requires c = rw (c.power.ensures, c.bit_length-half.ensures) (estimate_le 
 
 pub overflow_sub-result : goal.overflow_sub-result
 unfolding all_below count_leading_zeros node_count
-overflow_sub-result c = rw (c.count.ensures, c.power.ensures, c.bit_length-half.ensures) (excess_le _ refl _ c.requires)
+overflow_sub-result c = rw (c.from.ensures, c.count.ensures, c.power.ensures, c.bit_length-half.ensures) (excess_le _ refl _ c.requires)
 
 pub returns : goal.returns
 unfolding all_below count_leading_zeros node_count
-returns c = rw (c.count.ensures, c.power.ensures, c.bit_length-half.ensures) (rows_found_lem _ refl _ c.requires)
+returns c = rw (c.from.ensures, c.count.ensures, c.power.ensures, c.bit_length-half.ensures) (rows_found_lem _ refl _ c.requires)

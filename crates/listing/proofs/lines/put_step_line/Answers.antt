@@ -6,12 +6,14 @@ use Rattle.listing.proofs.lines.put_step_line.Goals as goal
 
 pub put_fields-next-requires : goal.put_fields-next-requires
 unfolding step_line
-put_fields-next-requires c = simp length-append (omega (arith, simp length-append at c.requires))
+put_fields-next-requires c = rw (c.from.ensures, c.from-2.ensures) (simp length-append (omega (arith, simp length-append at c.requires)))
 
 pub put_last_fields-requires : goal.put_last_fields-requires
 unfolding step_line
-put_last_fields-requires c = simp length-append (omega (arith, simp length-append at c.requires, simp length-append at c.put_fields-next.ensures.ends))
+put_last_fields-requires c =
+    let next = rw (c.from.ensures, c.from-2.ensures) at c.put_fields-next.ensures.ends in
+    rw (c.from-3.ensures, c.from-4.ensures) (simp length-append (omega (arith, simp length-append at c.requires, simp length-append at next)))
 
 pub returns : goal.returns
 unfolding step_line
-returns c = rw append_assoc at (then c.put_fields-next.ensures c.put_last_fields.ensures)
+returns c = rw (append_assoc, c.from.ensures, c.from-2.ensures, c.from-3.ensures, c.from-4.ensures) at (then c.put_fields-next.ensures c.put_last_fields.ensures)

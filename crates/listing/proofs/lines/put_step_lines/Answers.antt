@@ -1,11 +1,8 @@
--- `listing::lines::put_step_lines` meets its contract. The loop's invariant: the lines of the steps passed are put. The measure is
--- how many steps are left.
+-- `listing::lines::put_step_lines` meets its contract. The loop's invariant: the lines of the steps passed are put.
 use mathlib.Core.Path.{refl}
 use mathlib.Core.List.{flat_map}
-use Prim.Native.Nat.{◌-◌}
 use native.Mathlib.Omega.{arith}
 use Rattle.planning.specs.Made.{steps_in}
-use Rattle.listing.specs.Text.{step_line}
 use Rattle.listing.proofs.LineLaws.{lined_none, lined_room, lined_more}
 use Rattle.listing.proofs.StepLaws.{lines_more, step_short}
 use Rattle.listing.proofs.lines.put_step_lines.Goals as goal
@@ -16,7 +13,7 @@ loop-i-init c = lined_none refl (omega arith)
 
 pub put_step_line-next-requires : goal.put_step_line-next-requires
 put_step_line-next-requires c =
-    lined_room c.loop-i.invariant (omega arith) (step_short c.args.steps.now c.loop-i.i c.shared_slice_known-1.given) c.requires.count_in_bounds_2
+    lined_room c.loop-i.invariant (omega arith) (step_short c.args.steps.now c.loop-i.i c.shared_slice_known-1.given) c.requires
 
 pub loop-i-preserved : goal.loop-i-preserved
 loop-i-preserved c =

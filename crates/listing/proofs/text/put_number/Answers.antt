@@ -1,6 +1,5 @@
 -- `listing::text::put_number` meets its contract: the digits that `io` gives are those of the definition.
-use Rattle.std.proofs.Common.{rules, ◌≡◌, ◌∙◌, take}
-use Rattle.listing.specs.Text.{decimal}
+use Rattle.std.proofs.Common.{rules, ◌∙◌}
 use Rattle.listing.proofs.TextLaws.{decimal_is}
 use Rattle.listing.proofs.text.put_number.Goals as goal
 

@@ -1,10 +1,11 @@
 -- `mogtriz::repairs::mogtriz_run` meets its contract: it is the session's own run, with the session that C gets.
-use mathlib.Core.Path.{refl}
-use Rattle.mogtriz.specs.Repairs.{ran_c}
+use mathlib.Core.Path.{ap}
+use Rattle.repair.specs.Answers.{Repairs}
+use Rattle.mogtriz.specs.Repairs.{handed_back, repairs_c, ran_c}
 use Rattle.mogtriz.proofs.repairs.mogtriz_run.Goals as goal
 
-pub returns : goal.returns
+pub returns-clause-value : goal.returns-clause-value
 unfolding ran_c
-returns c =
-    let w = c.run-ran.ensures in
-    rw (c.repairs_for_c.ensures, c.handed_back-given.ensures, w.value, w.nodes_after, c.session.ensures) (record { value = refl; nodes_after = refl })
+returns-clause-value c =
+    rw (c.repairs_for_c.ensures, c.handed_back-given.ensures, c.number.ensures)
+    (ap (λ (own : Repairs). repairs_c own (handed_back c.args.session own.refusal own.session)) (rw c.from.ensures at c.run-ran.ensures.value))

@@ -1,7 +1,6 @@
 -- `mogtriz::sessions::marks_of_bytes` meets its contract: before each turn the marks of the bytes before j are in place.
 use mathlib.Core.Path.{sym}
 use mathlib.Core.List.{map}
-use Prim.Native.Nat.{◌-◌}
 use lib.ListN.{length-map, get_or-map}
 use Rattle.base.proofs.Fill.{fill_more}
 use Rattle.mogtriz.specs.Sessions.{mark_of}
@@ -13,4 +12,4 @@ loop-j-preserved c =
     let l = c.loop-j in
     let b = c.args.bytes in
     let n = length-map b mark_of in
-    (omega arith, rw l.invariant.1 (fill_more (map mark_of b) _ l.j (mark_of 0) (omega arith) (omega arith) (sym (get_or-map mark_of b l.j 0))))
+    rw l.invariant (fill_more (map mark_of b) _ l.j (mark_of 0) (omega arith) (omega arith) (sym (get_or-map mark_of b l.j 0)))

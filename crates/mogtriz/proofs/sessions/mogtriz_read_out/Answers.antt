@@ -1,10 +1,20 @@
 -- `mogtriz::sessions::mogtriz_read_out` meets its contract: it is the session's own read out, with the session as handed in.
-use mathlib.Core.Path.{refl}
+use mathlib.Core.Path.{ap}
+use Rattle.repair.specs.Answers.{ReadOut}
+use Rattle.mogtriz.specs.declared.sessions.MarkedSession.{MarkedSession}
+use Rattle.mogtriz.specs.declared.sessions.ReadOutAnswer.{ReadOutAnswer}
 use Rattle.mogtriz.specs.Sessions.{read_out_c}
 use Rattle.mogtriz.proofs.sessions.mogtriz_read_out.Goals as goal
 
-pub returns : goal.returns
+abbrev for_c : MarkedSession → ReadOut → ReadOutAnswer
+for_c session own = record { refusal = own.refusal; block = own.block; session = session }
+
+pub returns-in-Ok-clause-value : goal.returns-in-Ok-clause-value
 unfolding read_out_c
-returns c =
-    let w = c.read_out-answer.ensures in
-    rw (w.value, w.object_after, c.session.ensures) (record { value = refl; object_after = refl })
+returns-in-Ok-clause-value c =
+    ap (for_c c.args.session) (rw (c.from.ensures, c.in-Ok.is) at c.read_out-answer.ensures.value)
+
+pub returns-in-Err-clause-value : goal.returns-in-Err-clause-value
+unfolding read_out_c
+returns-in-Err-clause-value c =
+    rw (c.from-in-Err.ensures, c.block.ensures) (ap (for_c c.args.session) (rw (c.from.ensures, c.in-Err.is) at c.read_out-answer.ensures.value))

@@ -11,20 +11,20 @@ use Rattle.pairing.proofs.ListedLaws.{listed, fits_in, missing_count}
 use Rattle.pairing.proofs.count.count_missing.Goals as goal
 use Rattle.pairing.proofs.count.count_missing.Goals.{After-list_missing-lost, Start}
 
-node_few : (e : Start) → node_count e.args.family e.args.k ≤ 255
-node_few e = few _ _ e.requires.range
+node_few : (e : Start) → let g = e.args.set.columns.now.code in node_count g.family g.k ≤ 255
+node_few e = few _ _ e.args.set.columns.now.code.in_range
 
 -- the missing nodes, without the zeros after them
-missing_size : (c : After-list_missing-lost) → let g = c.args in c.node_count-n.result - length g.live.now ≡ length (missing_nodes g.marks.now (node_count g.family g.k))
+missing_size : (c : After-list_missing-lost) → let s = c.args.set in c.node_count-n.result - length s.list.now ≡ length (missing_nodes s.marks.now (node_count s.columns.now.code.family s.columns.now.code.k))
 missing_size c =
-    rw (c.node_count-n.ensures, c.requires.nodes) (missing_count c.args.marks.now (node_count c.args.family c.args.k))
+    rw (c.node_count-n.ensures, c.args.set.listed) (missing_count c.args.set.marks.now _)
 
 missing_list : (c : After-list_missing-lost)
-    → let g = c.args in take (c.node_count-n.result - length g.live.now) c.list_missing-lost.result ≡ missing_nodes g.marks.now (node_count g.family g.k)
+    → let s = c.args.set in take (c.node_count-n.result - length s.list.now) c.list_missing-lost.result ≡ missing_nodes s.marks.now (node_count s.columns.now.code.family s.columns.now.code.k)
 missing_list c =
     listed _ c.list_missing-lost.result _ (missing_size c) (rw c.node_count-n.ensures at c.list_missing-lost.ensures)
 
-missing_fits : (c : After-list_missing-lost) → c.node_count-n.result - length c.args.live.now ≤ length c.list_missing-lost.result
+missing_fits : (c : After-list_missing-lost) → c.node_count-n.result - length c.args.set.list.now ≤ length c.list_missing-lost.result
 missing_fits c = fits_in _ c.list_missing-lost.result _ (missing_size c) (missing_list c)
 
 pub list_missing-lost-requires : goal.list_missing-lost-requires
@@ -32,7 +32,7 @@ list_missing-lost-requires c = omega (arith, c.node_count-n.ensures, node_few (g
 
 pub slice_bounds-lost-count : goal.slice_bounds-lost-count
 slice_bounds-lost-count c =
-    omega (arith, c.node_count-n.ensures, ap length c.requires.nodes, live_nodes_few c.args.marks.now (node_count c.args.family c.args.k))
+    omega (arith, c.node_count-n.ensures, ap length c.args.set.listed, live_nodes_few c.args.set.marks.now (node_count c.args.set.columns.now.code.family c.args.set.columns.now.code.k))
 
 pub slice_bounds-lost-end : goal.slice_bounds-lost-end
 slice_bounds-lost-end c = missing_fits (goal.at.slice_bounds-lost-end c).After-list_missing-lost
@@ -44,4 +44,4 @@ pub returns : goal.returns
 returns c = c.count_listed.ensures ∙ rw (missing_list (goal.at.returns c).After-list_missing-lost)
 
 pub count_listed-requires : goal.count_listed-requires
-count_listed-requires c = record { search_begins = search; missing_value = missing_list (goal.at.count_listed-requires c).After-list_missing-lost }
+count_listed-requires c = missing_list (goal.at.count_listed-requires c).After-list_missing-lost

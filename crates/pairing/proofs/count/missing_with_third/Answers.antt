@@ -22,15 +22,16 @@ bit true = refl
 bit false = refl
 
 -- where the family is simplex
-all_but_one : (e : Start) → e.args.family ≡ Simplex
-    → with_third e.args.family e.args.k e.args.missing.now e.args.j + bool_byte (not (is_live e.args.marks.now e.args.j)) ≡ length e.args.missing.now
+all_but_one : (e : Start) → e.args.columns.now.code.family ≡ Simplex
+    → with_third e.args.columns.now.code.family e.args.columns.now.code.k e.args.missing.now e.args.j + bool_byte (not (is_live e.args.marks.now e.args.j)) ≡ length e.args.missing.now
 all_but_one e is =
     let p = e.requires in
+    let g = e.args.columns.now.code in
     rw (p.missing_value, bit (not (is_live e.args.marks.now e.args.j)), is)
-    (simplex_missing e.args.k (subst (λ (f : Family). KInRange f e.args.k) is p.kin_range.0) e.args.j (subst (λ (f : Family). IsNode f e.args.k e.args.j) is p.kin_range.2) (λ i. not (is_live e.args.marks.now i)))
+    (simplex_missing g.k (subst (λ (f : Family). KInRange f g.k) is g.in_range) e.args.j (subst (λ (f : Family). IsNode f g.k e.args.j) is p.node) (λ i. not (is_live e.args.marks.now i)))
 
 pub bounds-marks-j : goal.bounds-marks-j
-bounds-marks-j c = omega (arith, c.requires.kin_range.2.last, few _ _ c.requires.kin_range.0)
+bounds-marks-j c = omega (arith, c.requires.node.last, few _ _ c.args.columns.now.code.in_range)
 
 pub overflow_sub-result : goal.overflow_sub-result
 overflow_sub-result c = omega (arith, all_but_one (goal.at.overflow_sub-result c).Start c.in-Simplex.is)
@@ -39,4 +40,4 @@ pub returns-in-Simplex : goal.returns-in-Simplex
 returns-in-Simplex c = omega (arith, all_but_one (goal.at.returns-in-Simplex c).Start c.in-Simplex.is)
 
 pub with_third-requires : goal.with_third-requires
-with_third-requires c = record { kin_range = search; list_value = rw c.requires.missing_value (nodes_inside _ _) }
+with_third-requires c = record { node = c.requires.node; list_value = rw c.requires.missing_value (nodes_inside _ _) }

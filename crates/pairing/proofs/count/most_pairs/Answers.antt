@@ -9,11 +9,12 @@ use Rattle.pairing.proofs.count.most_pairs.Goals as goal
 pub overflow_sub-result : goal.overflow_sub-result
 unfolding node_count
 overflow_sub-result c =
-    omega (arith, c.node_count.ensures, pow_mono {i = 2} {j = c.args.k} (short _ _ c.requires).0)
+    let n = (rw c.in-Simplex.is at c.node_count.ensures) in
+    omega (arith, n, pow_mono {i = 2} {j = c.args.code.k} (short _ _ c.args.code.in_range).0)
 
 pub returns-in-Simplex : goal.returns-in-Simplex
 unfolding most_pairs
-returns-in-Simplex c = rw (c.in-Simplex.is, c.node_count.ensures)
+returns-in-Simplex c = let n = (rw c.in-Simplex.is at c.node_count.ensures) in rw (c.in-Simplex.is, n)
 
 pub returns-in-WeightTwo : goal.returns-in-WeightTwo
 unfolding most_pairs

@@ -1,79 +1,58 @@
 -- `pairing::ends::by_degrees` meets its contract: the table has how many missing nodes have each of the two numbers.
-use mathlib.Core.Path.{◌≡◌, refl}
+use mathlib.Core.Path.{◌≡◌, refl, subst}
 use mathlib.Core.Bool.{Bool, true, false, cond, not}
-use Prim.Native.Nat.{ℕ, ◌+◌, ◌*◌, ◌≤◌, ◌<◌}
+use Prim.Native.Nat.{◌+◌, ◌*◌, ◌<◌}
 use native.Mathlib.Omega.{arith}
-use lib.ListN.{get_or}
 use mir.Val.{bool_byte}
-use Rattle.families.specs.declared.Family.TheVariants.{WeightTwo}
-use Rattle.families.specs.Families.{node_count, column_of}
+use Rattle.families.specs.declared.Family.{Family}
+use Rattle.families.specs.Families.{KInRange, IsNode, node_count}
 use Rattle.families.proofs.Laws.{few, column}
-use Rattle.families.proofs.TableLaws.{table_at}
 use Rattle.lists.specs.Lists.{is_live, missing_nodes}
 use Rattle.pairing.specs.Inner.{with_third, first_end, second_end}
 use Rattle.pairing.proofs.DegreeLaws.{by_table, ends_few}
 use Rattle.pairing.proofs.ends.by_degrees.Goals as goal
-use Rattle.pairing.proofs.ends.by_degrees.Goals.{After-first_end, After-second_end, After-wide-second, Start}
-
-node_few : (e : Start) → e.args.j ≤ 255
-node_few e = omega (arith, e.requires.kin_range.2.last, few _ _ e.requires.kin_range.0)
-
--- j's column
-column_is : (e : Start) → get_or e.args.columns.now e.args.j 0 ≡ column_of WeightTwo e.args.k e.args.j
-column_is e = rw e.requires.kin_range.1 (table_at _ _ _ e.requires.kin_range.0 e.requires.kin_range.2)
-
--- the two numbers are in the table
-column_few : (e : Start) → let v = get_or e.args.columns.now e.args.j 0 in (first_end v < 32) × (second_end v < 32)
-column_few e = rw (column_is e) (ends_few _ e.requires.kin_range.0 _ e.requires.kin_range.2)
+use Rattle.pairing.proofs.ends.by_degrees.Goals.{After-of-column, After-from-second}
 
 twice : (b : Bool) → 2 * bool_byte b ≡ cond b 2 0
 twice true = refl
 twice false = refl
 
--- what is taken off, and what is left
-abbrev off : Start → ℕ
-off e = 2 * bool_byte (not (is_live e.args.marks.now e.args.j))
+-- the two numbers of j's column are in the table
+column_few : (c : After-of-column) → (first_end c.of-column.result < 32) × (second_end c.of-column.result < 32)
+column_few c =
+    let g = c.args.columns.now.code in
+    let f = c.requires.family in
+    rw (c.of-column.ensures, f.0) (ends_few _ (subst (λ (x : Family). KInRange x g.k) f.0 g.in_range) _ (subst (λ (x : Family). IsNode x g.k c.args.j) f.0 f.1))
 
-abbrev left : Start → ℕ
-left e = with_third WeightTwo e.args.k (missing_nodes e.args.marks.now (node_count WeightTwo e.args.k)) e.args.j
-
-whole : (c : After-wide-second) →
-    left c.before.before.before.before.before.before.before.before.before.before + off c.before.before.before.before.before.before.before.before.before.before ≡ c.wide-first.result + c.wide-second.result
-whole c =
-    let p = c.requires.kin_range in
+-- what is left, and what is taken off, are the two counts
+whole : (c : After-from-second) →
+    let g = c.args.columns.now.code in
     let m = c.args.marks.now in
-    rw (c.wide-first.ensures, c.wide-second.ensures, c.first_end.ensures, c.second_end.ensures, column_is c.before.before.before.before.before.before.before.before.before.before, c.requires.degrees_value, twice (not (is_live m c.args.j)))
-    (by_table _ p.0 _ p.2 (λ i. not (is_live m i)))
-
-first_within : (c : After-first_end) → c.first_end.result < 32
-first_within c = omega (arith, c.first_end.ensures, (column_few c.before.before.before.before).0)
-
-second_within : (c : After-second_end) → c.second_end.result < 32
-second_within c = omega (arith, c.second_end.ensures, (column_few c.before.before.before.before.before.before.before.before).1)
-
-pub offset_bounds-columns-j : goal.offset_bounds-columns-j
-offset_bounds-columns-j c = omega (arith, node_few (goal.at.offset_bounds-columns-j c).Start)
-
-pub bounds-columns-j : goal.bounds-columns-j
-bounds-columns-j c = omega (arith, node_few (goal.at.bounds-columns-j c).Start)
+    with_third g.family g.k (missing_nodes m (node_count g.family g.k)) c.args.j + 2 * bool_byte (not (is_live m c.args.j)) ≡ c.from-first.result + c.from-second.result
+whole c =
+    let g = c.args.columns.now.code in
+    let f = c.requires.family in
+    let m = c.args.marks.now in
+    rw (c.from-first.ensures, c.from-second.ensures, c.first_end.ensures, c.second_end.ensures, c.of-column.ensures, c.requires.degrees_value, twice (not (is_live m c.args.j)), f.0)
+    (by_table _ (subst (λ (x : Family). KInRange x g.k) f.0 g.in_range) _ (subst (λ (x : Family). IsNode x g.k c.args.j) f.0 f.1) (λ i. not (is_live m i)))
 
 pub bounds-degrees-first_end : goal.bounds-degrees-first_end
-bounds-degrees-first_end c = first_within (goal.at.bounds-degrees-first_end c).After-first_end
+bounds-degrees-first_end c = omega (arith, c.first_end.ensures, (column_few (goal.at.bounds-degrees-first_end c).After-of-column).0)
 
 pub second_end-requires : goal.second_end-requires
-second_end-requires c = omega (arith, column_is (goal.at.second_end-requires c).Start, (column _ _ _ c.requires.kin_range.0 c.requires.kin_range.2).positive)
+second_end-requires c = omega (arith, c.of-column.ensures, (column _ _ _ c.args.columns.now.code.in_range c.requires.family.1).positive)
 
 pub offset_bounds-degrees-second_end : goal.offset_bounds-degrees-second_end
-offset_bounds-degrees-second_end c = omega (arith, second_within (goal.at.offset_bounds-degrees-second_end c).After-second_end)
+offset_bounds-degrees-second_end c = omega (arith, c.second_end.ensures, (column_few (goal.at.offset_bounds-degrees-second_end c).After-of-column).1)
 
 pub bounds-degrees-second_end : goal.bounds-degrees-second_end
-bounds-degrees-second_end c = second_within (goal.at.bounds-degrees-second_end c).After-second_end
+bounds-degrees-second_end c = omega (arith, c.second_end.ensures, (column_few (goal.at.bounds-degrees-second_end c).After-of-column).1)
 
 pub bounds-marks-j : goal.bounds-marks-j
-bounds-marks-j c = omega (arith, node_few (goal.at.bounds-marks-j c).Start)
+bounds-marks-j c = omega (arith, c.requires.family.1.last, few _ _ c.args.columns.now.code.in_range)
 
 pub overflow_sub-result : goal.overflow_sub-result
-overflow_sub-result c = omega (arith, whole (goal.at.overflow_sub-result c).After-wide-second)
+overflow_sub-result c = omega (arith, whole (goal.at.overflow_sub-result c).After-from-second)
 
 pub returns : goal.returns
-returns c = omega (arith, whole (goal.at.returns c).After-wide-second)
+returns c = omega (arith, whole (goal.at.returns c).After-from-second)

@@ -3,12 +3,12 @@ use Prim.Native.Nat.{◌≤◌}
 use native.Mathlib.Omega.{arith}
 use Rattle.families.specs.Families.{node_count}
 use Rattle.families.proofs.Laws.{few}
-use Rattle.pairing.proofs.OneLaws.{found_alone}
+use Rattle.pairing.proofs.OneLaws.{alone_some, alone_none}
 use Rattle.pairing.proofs.search.pairs_of.Goals as goal
 use Rattle.pairing.proofs.search.pairs_of.Goals.{After-node_count-n, Start}
 
-node_few : (e : Start) → node_count e.args.family e.args.k ≤ 255
-node_few e = few _ _ e.requires.0
+node_few : (e : Start) → node_count e.args.code.family e.args.code.k ≤ 255
+node_few e = few _ _ e.args.code.in_range
 
 few_nodes : (n : After-node_count-n) → n.node_count-n.result ≤ 255
 few_nodes n = omega (arith, n.node_count-n.ensures, node_few (search))
@@ -19,6 +19,12 @@ count_live-count-requires c = few_nodes (goal.at.count_live-count-requires c).Af
 pub list_live-all-requires : goal.list_live-all-requires
 list_live-all-requires c = few_nodes (goal.at.list_live-all-requires c).After-node_count-n
 
-pub returns : goal.returns
-returns c =
-    rw (c.find_next-found.ensures, c.count_alone-counts.ensures) (found_alone c.args.family c.args.k c.requires.0 c.args.marks c.args.j c.requires.1)
+pub returns-in-Some : goal.returns-in-Some
+returns-in-Some c =
+    let g = c.args in
+    alone_some g.code.family g.code.k g.code.in_range g.marks g.j c.requires (rw c.new-columns.ensures at c.count_alone-counts.ensures) (rw c.new-columns.ensures at c.in-Some.ensures)
+
+pub returns-in-None : goal.returns-in-None
+returns-in-None c =
+    let g = c.args in
+    alone_none g.code.family g.code.k g.code.in_range g.marks g.j c.requires (rw c.new-columns.ensures at c.count_alone-counts.ensures) (rw c.new-columns.ensures at c.in-None.ensures)

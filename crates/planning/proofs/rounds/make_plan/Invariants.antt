@@ -3,8 +3,8 @@ use Prim.Native.Nat.{◌-◌}
 use Rattle.planning.proofs.PlannedLaws.{Rounds}
 use Rattle.planning.proofs.rounds.make_plan.Given as goal
 
-abbrev pub invariant-loop-family : goal.invariant-loop-family
-invariant-loop-family l = Rounds l.family l.k l.initial.marks l.initial.out l.out l.marks l.steps l.rounds
+abbrev pub invariant-loop-columns : goal.invariant-loop-columns
+invariant-loop-columns l = Rounds l.fn.code.family l.fn.code.k l.initial.marks l.initial.out l.out l.marks l.steps l.rounds
 
-abbrev pub decreases-loop-family : goal.decreases-loop-family
-decreases-loop-family l = l.n - l.rounds
+abbrev pub decreases-loop-columns : goal.decreases-loop-columns
+decreases-loop-columns l = l.n - l.rounds

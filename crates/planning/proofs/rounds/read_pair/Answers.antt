@@ -1,5 +1,4 @@
 -- `planning::rounds::read_pair` meets its contract: one node after the other.
-use Prim.Native.Nat.{◌-◌}
 use Rattle.planning.proofs.ReadLaws.{rest_some}
 use Rattle.planning.proofs.rounds.read_pair.Goals as goal
 

@@ -1,6 +1,6 @@
 -- `repair::Session::make_steps` meets its contract: the steps are carried out one after the other, and they and their reads are counted.
 use mathlib.Core.Path.{◌≡◌}
-use Prim.Native.Nat.{◌≤◌}
+use Prim.Native.Nat.{◌/◌, ◌≤◌}
 use native.Mathlib.Omega.{arith}
 use borrow.Author.Rules.{rules}
 use lib.ListN.{length}
@@ -14,22 +14,20 @@ marks : (c : Start) → length c.args.self.live ≡ 256
 marks c = search rules
 
 -- the session's own steps and those to be made are few
-few_steps : (c : Start) → let s = c.args.self in (s.steps ≤ 255) × (sum_of s.reads ≤ 510) × (c.args.count ≤ 255)
+few_steps : (c : Start) → let s = c.args.self in (s.steps ≤ 255) × (sum_of s.reads ≤ 510) × (length c.args.steps.now / 4 ≤ 255)
 few_steps c =
     let s = c.args.self in
     let w = steps_few s (known s c.requires.self_value.0) in
-    (w.0, w.1, bytes_few s c.requires.self_value.0 (marks c) c.args.steps.now c.args.count c.requires.can_make_all)
+    (w.0, w.1, bytes_few s c.requires.self_value.0 (marks c) c.args.steps.now _ c.requires.can_make_all)
 
 pub overflow_add-self : goal.overflow_add-self
 overflow_add-self c = record { fits = omega (arith, few_steps (goal.at.overflow_add-self c).Start) }
 
 pub carry_out-requires : goal.carry_out-requires
-carry_out-requires c =
-    record { count_in_bounds = c.requires.self_value.2; all_in = bytes_in c.args.self c.requires.self_value.0 (marks (goal.at.carry_out-requires c).Start) c.args.steps.now c.args.count c.requires.can_make_all c.args.nodes.now c.requires.self_value.1 }
+carry_out-requires c = bytes_in c.args.self c.requires.self_value.0 (marks (goal.at.carry_out-requires c).Start) c.args.steps.now _ c.requires.can_make_all c.args.nodes.now c.requires.self_value.1
 
 pub count_reads-requires : goal.count_reads-requires
-count_reads-requires c = record { count_in_bounds = c.requires.self_value.2; count_bound = omega (arith, few_steps (goal.at.count_reads-requires c).Start) }
+count_reads-requires c = omega (arith, few_steps (goal.at.count_reads-requires c).Start)
 
-pub returns : goal.returns
-returns c =
-    record { value = bytes_made c.args.self c.requires.self_value.0 (marks (goal.at.returns c).Start) c.args.steps.now c.args.count c.requires.can_make_all _ _ c.requires.live_value c.count_reads.ensures; nodes_after = c.carry_out.ensures }
+pub returns-clause-value : goal.returns-clause-value
+returns-clause-value c = bytes_made c.args.self c.requires.self_value.0 (marks (goal.at.returns-clause-value c).Start) c.args.steps.now _ c.requires.can_make_all _ _ c.requires.live_value c.count_reads.ensures

@@ -1,39 +1,44 @@
 -- `repair::Session::plan` meets its contract: the plan is made aside, and copied where the destination is long enough.
--- ---- places: each from those after it
-use mathlib.Core.Path.{◌≡◌, sym, ◌∙◌}
-use mathlib.Core.Bool.{false}
+use mathlib.Core.Path.{◌∙◌}
 use Prim.Native.Nat.{◌*◌}
 use native.Mathlib.Nat.{sub-zero}
 use native.Mathlib.Omega.{arith}
-use lib.ListN.{length}
-use Rattle.repair.specs.Session.{unsound}
-use Rattle.repair.specs.Repairs.{plan_in}
+use Rattle.repair.proofs.CodeLaws.{code_sound, code_unsound, code_13}
 use Rattle.repair.proofs.RepairsLaws.{plan_13, plan_6, plan_made, made_steps, made_answer, made_bytes}
 use Rattle.repair.proofs.Session.plan.Goals as goal
-use Rattle.repair.proofs.Session.plan.Goals.{After-draw_up-made, Else-is_unsound}
 
--- ---- what is known there
-sound : (c : Else-is_unsound) → unsound c.args.self ≡ false
-sound c = sym c.is_unsound.ensures ∙ c.if-is_unsound.false
+pub returns-in-Err-clause-value : goal.returns-in-Err-clause-value
+returns-in-Err-clause-value c =
+    let e = c.in-Err.ensures.number in
+    rw (c.refused.ensures, code_13 _ _ e) (plan_13 c.args.self c.args.out.now (code_unsound _ _ e)).answer_is
 
-steps_are : (c : After-draw_up-made) → c.draw_up-made.result.steps ≡ length (plan_in c.args.self)
-steps_are c = made_steps c.args.self c.draw_up-made.result c.draw_up-made.ensures.value.0
+pub returns-in-Err-clause-out_after : goal.returns-in-Err-clause-out_after
+returns-in-Err-clause-out_after c = (plan_13 c.args.self c.args.out.now (code_unsound _ _ c.in-Err.ensures.number)).buffer_is
 
-pub returns-then-is_unsound : goal.returns-then-is_unsound
-returns-then-is_unsound c =
+pub returns-then-out-needed-clause-value : goal.returns-then-out-needed-clause-value
+returns-then-out-needed-clause-value c =
     let g = c.args in
-    let r = plan_13 g.self g.out.now (sym c.is_unsound.ensures ∙ c.if-is_unsound.true) in
-    record { value = c.no_repairs.ensures ∙ r.answer_is; out_after = r.buffer_is }
+    let m = made_steps g.self _ c.draw_up-made.ensures.value.0 in
+    rw c.refused-then-out-needed.ensures (plan_6 g.self g.out.now (code_sound _ c.in-Ok.ensures.number) (omega (arith, m))).answer_is
 
-pub returns-then-out-needed : goal.returns-then-out-needed
-returns-then-out-needed c =
+pub returns-then-out-needed-clause-out_after : goal.returns-then-out-needed-clause-out_after
+returns-then-out-needed-clause-out_after c =
     let g = c.args in
-    let r = plan_6 g.self g.out.now (sound (goal.at.returns-then-out-needed c).Else-is_unsound) (omega (arith, steps_are (goal.at.returns-then-out-needed c).After-draw_up-made)) in
-    record { value = c.no_repairs-then-out-needed.ensures ∙ r.answer_is; out_after = r.buffer_is }
+    let m = made_steps g.self _ c.draw_up-made.ensures.value.0 in
+    (plan_6 g.self g.out.now (code_sound _ c.in-Ok.ensures.number) (omega (arith, m))).buffer_is
 
-pub returns : goal.returns
-returns c =
+pub returns-clause-value : goal.returns-clause-value
+returns-clause-value c =
+    let g = c.args in
     let d = c.draw_up-made in
+    let m = made_steps g.self _ d.ensures.value.0 in
+    rw (c.served.ensures, c.from.ensures)
+    (made_answer g.self d.result d.ensures.value.0 g.self ∙ (plan_made g.self g.out.now (code_sound _ c.in-Ok.ensures.number) (omega (arith, m))).answer_is)
+
+pub returns-clause-out_after : goal.returns-clause-out_after
+returns-clause-out_after c =
     let g = c.args in
-    let m = steps_are (goal.at.returns c).After-draw_up-made in
-    let r = plan_made g.self g.out.now (sound (goal.at.returns c).Else-is_unsound) (omega (arith, m)) in record { value = c.counted.ensures ∙ made_answer g.self d.result d.ensures.value.0 g.self ∙ r.answer_is; out_after = rw (c.copy_block.ensures, sub-zero (4 * d.result.steps), made_bytes g.self d.result d.ensures.value.0 _ _ d.ensures.steps_after) (rw (← m) at r.buffer_is) }
+    let d = c.draw_up-made in
+    let m = made_steps g.self _ d.ensures.value.0 in
+    rw (c.copy_block.ensures, sub-zero (4 * d.result.steps), made_bytes g.self d.result d.ensures.value.0 _ _ d.ensures.steps_after)
+    (rw (← m) at (plan_made g.self g.out.now (code_sound _ c.in-Ok.ensures.number) (omega (arith, m))).buffer_is)
