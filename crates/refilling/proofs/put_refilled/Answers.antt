@@ -69,6 +69,16 @@ module _ (s : Session) {bytes : List ℕ} {listing : Answer ℕ} (gives : (writt
   names_count : LiveListClaims s lent → count ≡ length (take count bytes)
   names_count claims = count_is ∙ ap (λ (r : Written). r.length) claims.answer ∙ ap length (sym names)
 
+-- what write is handed: the next session, the buffer after the run, and the list
+handed : (l : After-live_nodes) {count : ℕ} → l.live_nodes.result.result ≡ Ok count → {A : Type 0} (f : Session → List ℕ → List ℕ → A)
+    → let s = next l.args.input.now l.args.nodes.now in
+    f l.run.result.session l.run.new.nodes (take count l.live_nodes.new.out) ≡ f s (after l.args.input.now l.args.nodes.now) (list_left s lent)
+handed l h f =
+    let ran_is = (run_gives l).0 in
+    let nodes_are = (run_gives l).1 in
+    let names_are = names _ (list_gives l) h in
+    cc
+
 pub unwrap-session-requires : goal.unwrap-session-requires
 unwrap-session-requires c =
     let p = c.requires in
@@ -93,14 +103,9 @@ slice_bounds-write-end c =
 pub unwrap-requires : goal.unwrap-requires
 unwrap-requires c =
     let l = (goal.at.unwrap-requires c).After-live_nodes in
-    let input = c.args.input.now in
-    let nodes = c.args.nodes.now in
     let out = c.args.out.now in
-    let claims = written_claims input c.requires.input_value nodes c.requires.nodes_len lent refl out c.requires.input_in_bounds in
-    let ran_is = (run_gives l).0 in
-    let nodes_are = (run_gives l).1 in
-    let names_are = names _ (list_gives l) c.unwrap-count.ensures in
-    let wrote : written_as c.write.result ≡ written (next input nodes) (after input nodes) (list_left (next input nodes) lent) out = c.write.ensures.value ∙ cc in
+    let claims = written_claims c.args.input.now c.requires.input_value c.args.nodes.now c.requires.nodes_len lent refl out c.requires.input_in_bounds in
+    let wrote = c.write.ensures.value ∙ handed l c.unwrap-count.ensures (λ s nodes list. written s nodes list out) in
     served c.write.result.result (ap (λ (r : Written). r.refusal) (wrote ∙ claims.answer))
 
 pub returns : goal.returns
@@ -111,11 +116,8 @@ returns c =
     let nodes = c.args.nodes.now in
     let out = c.args.out.now in
     let claims = written_claims input c.requires.input_value nodes c.requires.nodes_len lent refl out c.requires.input_in_bounds in
-    let ran_is = (run_gives l).0 in
-    let nodes_are = (run_gives l).1 in
-    let names_are = names _ (list_gives l) c.unwrap-count.ensures in
-    let wrote : written_as c.write.result ≡ written (next input nodes) (after input nodes) (list_left (next input nodes) lent) out = c.write.ensures.value ∙ cc in
-    let left : c.write.new.out ≡ out_written (next input nodes) (after input nodes) (list_left (next input nodes) lent) out = c.write.ensures.out_after ∙ cc in
+    let wrote = c.write.ensures.value ∙ handed l c.unwrap-count.ensures (λ s nodes list. written s nodes list out) in
+    let left = c.write.ensures.out_after ∙ handed l c.unwrap-count.ensures (λ s nodes list. out_written s nodes list out) in
     let e = ap count_in (sym c.unwrap.ensures) ∙ ap (λ (x : Written). x.length) (wrote ∙ claims.answer) in
     let box = ap (λ (list : List ℕ). box_of (next input nodes).family (next input nodes).k (next input nodes).len list (after input nodes)) (sym (listed l).is) ∙ sym claims.box in
     rw box (record { value = e; upper_bound = omega (arith, e, claims.room); out_after = left ∙ claims.rest })
