@@ -1,7 +1,7 @@
 #!/usr/bin/env bash
-# The library and its header from C and from C++: what the library exports is what the header declares and tests/calls.c calls; what
-# the header adds is called too, and right; each call takes empty buffers, warns where its answer is ignored, and needs
-# no more stack than is said. Needs `bash build.sh`.
+# The library and its header from C and from C++: what the library exports is what the header declares and tests/calls.c calls, and it
+# needs nothing from outside but what README says; what the header adds is called too, and right; each call takes empty buffers, warns
+# where its answer is ignored, and needs no more stack than is said. Needs `bash build.sh`.
 set -euo pipefail
 cd "$(dirname "$0")/.."
 archive=target/staticlib/libmogtriz.a
@@ -24,6 +24,8 @@ functions() { grep -oE '\bmogtriz_[a-z_]+ \(' | names; }
 nm -g --defined-only "$archive" | names >"$out/exported"
 listed C | functions | diff "$out/exported" -
 listed F | functions >"$out/inline"
+# of the C library it needs memcpy and memset alone
+nm --undefined-only "$archive" | awk '$1 == "U" { print $2 }' | sort -u | diff <(printf '%s\n' memcpy memset) -
 # each call with a buffer has its own in the header
 listed C | grep 'uint8_t \*' | functions >"$out/with_buffers"
 sed 's/mogtriz_/&inline_/' "$out/with_buffers" | diff - <(comm -12 "$out/inline" <(sed 's/mogtriz_/&inline_/' "$out/exported"))

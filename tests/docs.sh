@@ -16,7 +16,7 @@ missing=0
 declare -A known=(
     [must-fail]="a command of the kit"
     [memset]="a function of the C library, which the compiler puts in"
-    [memmove]="likewise"
+    [memmove]="a function of the C library, which the library does without"
     [condition]="stands for any condition of a check"
 )
 

@@ -62,6 +62,10 @@ put_beside s u v at m n h e =
 pub length_mid : (s : List ℕ) (p n : ℕ) → p + n ≤ length s → length (mid_of p n s) ≡ n
 length_mid s p n h = simp (length-take, length-drop) (omega arith)
 
+-- so are two parts of one list, put side by side in the same places of another
+pub copy_beside : (s d : List ℕ) (at m n : ℕ) → at + m ≤ length s → at ≤ length d → put_mid (at + m) n (put_mid at m d (mid_of at m s)) (mid_of (at + m) n s) ≡ put_mid at (m + n) d (mid_of at (m + n) s)
+copy_beside s d at m n h l = put_beside d (mid_of at m s) (mid_of (at + m) n s) at m n l (length_mid s at m h) ∙ ap (put_mid at (m + n) d) (sym (mid_beside s at m n))
+
 -- what stands in a part
 pub get_or_mid : (s : List ℕ) (at n j : ℕ) → j < n → get_or (mid_of at n s) j 0 ≡ get_or s (at + j) 0
 get_or_mid s at n j h = get_or-take n (drop at s) j 0 h ∙ get_or-drop at s j 0

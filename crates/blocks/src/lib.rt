@@ -29,17 +29,46 @@ fn copy_by_pieces<const N: usize>(dst: &mut [u8], src: &[u8])
     copy_piece_at::<N>(dst, src, src.len() - N);
 }
 
-// dst becomes src, of the same length. The last line is a call, which takes more time than pieces do below 128 bytes. Fewer than 8
-// pieces of 16 bytes the compiler writes out without a loop; with more of them, or larger ones, some lengths take longer than the call.
+// 64 bytes of dst from a place on become those of src, by four pieces. A piece is one register, stored before the next is loaded:
+// of 64 bytes by value the compiler stores the last ones first, which is slower where dst is not aligned.
+fn copy_chunk_at(dst: &mut [u8], src: &[u8], at: usize)
+    requires { (at + 64 ≤ length dst.old) × (at + 64 ≤ length src.now) }
+    ensures { dst.new ≡ put_mid at 64 dst.old (mid_of at 64 src.now) }
+{
+    copy_piece_at::<16>(dst, src, at);
+    copy_piece_at::<16>(dst, src, at + 16);
+    copy_piece_at::<16>(dst, src, at + 32);
+    copy_piece_at::<16>(dst, src, at + 48);
+}
+
+// dst, 64 bytes or more, becomes src, of the same length, by chunks. The last chunk ends with the last byte and may overlap
+// the one before it, so that no tail is left to copy byte by byte.
+fn copy_by_chunks(dst: &mut [u8], src: &[u8])
+    requires { (64 ≤ length dst.old) × (length src.now ≡ length dst.old) }
+    ensures { dst.new ≡ src.now }
+{
+    for chunk in 0..src.len() / 64 {
+        copy_chunk_at(dst, src, 64 * chunk);
+    }
+    let done = 64 * (src.len() / 64);
+    if done == src.len() {
+        return;
+    }
+    copy_chunk_at(dst, src, src.len() - 64);
+}
+
+// dst becomes src, of the same length. By pieces and chunks of constant sizes, as `copy_from_slice` is a call of the C library's
+// memmove where the size is no constant, and a caller's program need not have that.
 pub fn copy_block(dst: &mut [u8], src: &[u8])
     requires { length src.now ≡ length dst.old }
     ensures { dst.new ≡ src.now }
 {
     match src.len() {
+        0 => {}
         1..4 => copy_by_pieces::<1>(dst, src),
         4..16 => copy_by_pieces::<4>(dst, src),
-        16..128 => copy_by_pieces::<16>(dst, src),
-        _ => dst.copy_from_slice(src),
+        16..64 => copy_by_pieces::<16>(dst, src),
+        _ => copy_by_chunks(dst, src),
     }
 }
 

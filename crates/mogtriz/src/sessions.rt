@@ -3,8 +3,9 @@
 // the session back as it came, byte for byte.
 ghost use Rattle.std.specs.Prelude.{◌≡◌, map};
 ghost use Rattle.mogtriz.specs.Sessions.{byte_of, mark_of, some_above1, session_for_c, session_of_c, started_c, length_c, written_c, live_listed_c, read_out_c, part_in};
+ghost use Rattle.checks.specs.Refusals.{number_in};
 ghost use Rattle.lists.specs.Lists.{none_live};
-ghost use Rattle.repair.specs.Answers.{started_as, written_as};
+ghost use Rattle.repair.specs.Answers.{started_as, written_as, block_in};
 ghost use Rattle.repair.specs.Session.{session_with, started};
 ghost use Rattle.repair.specs.Boxed.{checked_box, read_box, nodes_read, out_written};
 ghost use Rattle.repair.specs.LiveNodes.{out_listed};
@@ -214,14 +215,14 @@ pub extern "C" fn mogtriz_body(bytes: &[u8], node: usize) -> Part
     }
 }
 
-// The number of bytes written, with the session as handed in.
-fn length_for_c(answer: Answer<usize>, session: MarkedSession) -> WriteAnswer
-    ensures { result ≡ length_c (written_as answer) session }
+// The number of bytes written, with the session as handed in. Both are lent: by value each would be copied once more.
+fn length_for_c(answer: &Answer<usize>, session: &MarkedSession) -> WriteAnswer
+    ensures { result ≡ length_c (written_as answer.now) session.now }
 {
     WriteAnswer {
         refusal: checks::number(answer.result),
         length: answer.result.unwrap_or(0),
-        session,
+        session: *session,
     }
 }
 
@@ -237,7 +238,7 @@ pub extern "C" fn mogtriz_write(
     ensures out_after { out.new ≡ out_written (session_of_c session) nodes.now list.now out.old }
 {
     let answer = Session::from(session).write(nodes, list, out);
-    length_for_c(answer, session)
+    length_for_c(&answer, &session)
 }
 
 // The live nodes, rising, a byte each.
@@ -247,7 +248,28 @@ pub extern "C" fn mogtriz_live_nodes(session: MarkedSession, out: &mut [u8]) -> 
     ensures out_after { out.new ≡ out_listed (session_of_c session) out.old }
 {
     let answer = Session::from(session).live_nodes(out);
-    length_for_c(answer, session)
+    length_for_c(&answer, &session)
+}
+
+// The data block whose node is missing, which comes with 14; 0 with any other answer.
+fn block_in(given: Result<(), Refusal>) -> usize
+    ensures { result ≡ block_in given }
+{
+    match given {
+        Ok(()) => 0,
+        Err(refusal) => refusal.block(),
+    }
+}
+
+// What reading out gives, with the session as handed in, lent as to `length_for_c`.
+fn read_out_for_c(answer: &Answer<()>, session: &MarkedSession) -> ReadOutAnswer
+    ensures { result ≡ record { refusal = number_in answer.now.result; block = block_in answer.now.result; session = session.now } }
+{
+    ReadOutAnswer {
+        refusal: checks::number(answer.result),
+        block: block_in(answer.result),
+        session: *session,
+    }
 }
 
 // The k data blocks.
@@ -261,16 +283,5 @@ pub extern "C" fn mogtriz_read_out(
     ensures object_after { object.new ≡ object_out (session_of_c session) nodes.now object.old }
 {
     let answer = Session::from(session).read_out(nodes, object);
-    match answer.result {
-        Ok(()) => ReadOutAnswer {
-            refusal: 0,
-            block: 0,
-            session,
-        },
-        Err(refusal) => ReadOutAnswer {
-            refusal: u8::from(refusal),
-            block: refusal.block(),
-            session,
-        },
-    }
+    read_out_for_c(&answer, &session)
 }

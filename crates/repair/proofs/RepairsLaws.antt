@@ -110,10 +110,9 @@ module _ (s : Session) (made : Planned) (is : made ≡ planned_of (family_of s.f
         ≡ repairs_of s (after_steps s (plan_in s))
     made_ran reads e = rw (e, made_back, is)
 
-    pub made_in : unsound s ≡ false → length s.live ≡ 256 → (nodes : List ℕ) → length nodes ≡ node_count_of s * s.len
+    pub made_in : KInRange (family_of s.family) s.k → length s.live ≡ 256 → (nodes : List ℕ) → length nodes ≡ node_count_of s * s.len
         → AllIn s.len nodes (steps_in (take (4 * made.steps) bytes) (length (take (4 * made.steps) bytes) / 4))
-    made_in sound size nodes e =
-        let range : KInRange (family_of s.family) s.k = (known s sound).range.blocks in
+    made_in range size nodes e =
         subst (AllIn s.len nodes) (sym made_back)
         (all_in (family_of s.family) s.k range s.len nodes e s.live (plan_in s) (plan_claim (family_of s.family) s.k range s.live size).makes)
 

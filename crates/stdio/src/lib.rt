@@ -1,9 +1,9 @@
 // Standard input, output and error of the programs, over std's readers and writers.
 #![tactic(auto)]
 
-ghost use Rattle.std.specs.Prelude.{◌≡◌, ◌-◌, ◌<◌, IsOk, IsTrue, length, take, drop};
+ghost use Rattle.std.specs.Prelude.{◌≡◌, ◌+◌, ◌-◌, ◌^◌, ◌<◌, IfOk, IsOk, IsTrue, length, take, drop};
 ghost use Rattle.std.specs.Io.KnownBytes.{Appends, Consumes, IsAtEnd};
-ghost use Rattle.stdio.specs.Reading.{count_read, ReadInto};
+ghost use Rattle.stdio.specs.Reading.{after_read, count_read, ReadInto};
 ghost use Rattle.stdio.specs.Inner.{ReadAfter};
 
 use std::io;
@@ -15,6 +15,17 @@ pub struct ReadFailed {
     pub count: usize,
 }
 
+// How many bytes have been read once a read answered, `count` bytes having been read before it.
+fn after_read(count: usize, answer: io::Result<usize>) -> Result<usize, ReadFailed>
+    requires { IfOk answer (λ got. count + got < 2 ^ 64) }
+    ensures { result ≡ after_read count answer }
+{
+    match answer {
+        Ok(got) => Ok(count + got),
+        Err(_) => Err(ReadFailed { count }),
+    }
+}
+
 // One read more, into `buf` after the `count` bytes that were read before: how many have been read then.
 fn read_more<R: Read>(reader: &mut R, buf: &mut [u8], count: usize) -> Result<usize, ReadFailed>
     requires { count < length buf.old }
@@ -23,10 +34,8 @@ fn read_more<R: Read>(reader: &mut R, buf: &mut [u8], count: usize) -> Result<us
     ensures bytes { Consumes (R.remaining reader.old) (R.remaining reader.new) (take (count_read result - count) (drop count buf.new)) }
     ensures end { result ≡ Ok count → IsAtEnd (R.remaining reader.new) }
 {
-    match reader.read(&mut buf[count..]) {
-        Ok(got) => Ok(count + got),
-        Err(_) => Err(ReadFailed { count }),
-    }
+    let answer = reader.read(&mut buf[count..]);
+    after_read(count, answer)
 }
 
 // Reads until `buf` is full, the input ends or a read fails.

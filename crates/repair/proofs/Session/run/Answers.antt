@@ -28,7 +28,7 @@ carry_out-requires c =
     let g = c.args in
     let b = sized g.self _ (sym c.in-Ok.ensures.number) in
     let marks : length g.self.live ≡ 256 = search rules in
-    made_in g.self d.result d.ensures.value.0 _ _ d.ensures.steps_after b.sound marks g.nodes.now b.size
+    made_in g.self d.result d.ensures.value.0 _ _ d.ensures.steps_after (known g.self b.sound).range.blocks marks g.nodes.now b.size
 
 pub count_reads-requires : goal.count_reads-requires
 count_reads-requires c =
