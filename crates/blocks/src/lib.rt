@@ -63,12 +63,15 @@ pub fn copy_block(dst: &mut [u8], src: &[u8])
     requires { length src.now ≡ length dst.old }
     ensures { dst.new ≡ src.now }
 {
+    if 64 <= src.len() {
+        copy_by_chunks(dst, src);
+        return;
+    }
     match src.len() {
         0 => {}
         1..4 => copy_by_pieces::<1>(dst, src),
         4..16 => copy_by_pieces::<4>(dst, src),
-        16..64 => copy_by_pieces::<16>(dst, src),
-        _ => copy_by_chunks(dst, src),
+        _ => copy_by_pieces::<16>(dst, src),
     }
 }
 

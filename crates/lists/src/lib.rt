@@ -67,9 +67,10 @@ pub fn check(n: usize, list: &[u8]) -> Result<(), Refusal>
 pub fn place_in(list: &[u8], j: usize) -> usize
     ensures { result ≡ place_in list.now j }
 {
-    list.iter()
-        .position(|&i| usize::from(i) == j)
-        .unwrap_or(list.len())
+    match list.iter().position(|&i| usize::from(i) == j) {
+        Some(place) => place,
+        None => list.len(),
+    }
 }
 
 // Every mark missing, and then those of a list set live.

@@ -20,6 +20,7 @@ impl Session {
         if base::is_outside(1, code.node_count(), node) {
             return self.refused(Refusal::UnknownNode);
         }
-        self.served(pairing::search::pairs_of(code, self.live, node))
+        let pairs = pairing::search::pairs_of(code, self.live, node);
+        self.served(pairs)
     }
 }

@@ -25,4 +25,4 @@ returns c =
     let p = c.in-Ok.ensures.code in
     let n = nodes_of_code g.self _ _ p c.node_count.ensures in
     let o : outside 1 (node_count_of g.self) g.node ≡ false = sym (rw n at c.is_outside.ensures) ∙ c.if-is_outside.false in
-    rw (c.served.ensures, c.pairs_of.ensures, p.family_is, p.k_is) (pairs_served g.self g.node (code_sound _ c.in-Ok.ensures.number) o)
+    rw (c.served.ensures, c.pairs_of-pairs.ensures, p.family_is, p.k_is) (pairs_served g.self g.node (code_sound _ c.in-Ok.ensures.number) o)
