@@ -65,6 +65,10 @@ column Tetrahedron k j r n =
     let e : Entry j = entry j n.first n.last in
     record { positive = e.positive; below = rw (four k r) e.below }
 
+-- so that a column fits four bytes
+pub column_small : (f : Family) (k j : ℕ) → KInRange f k → IsNode f k j → column_of f k j < 2 ^ 22
+column_small f k j r n = omega (arith, (column f k j r n).below, pow_mono {j = 22} (short f k r).1)
+
 -- no two nodes have one column
 pub column_once : (f : Family) (k i j : ℕ) → KInRange f k → IsNode f k i → IsNode f k j → column_of f k i ≡ column_of f k j → i ≡ j
 unfolding column_of node_count

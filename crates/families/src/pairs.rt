@@ -113,19 +113,19 @@ fn next_pair(k: usize, pair: Pair) -> Pair
     }
 }
 
-// All columns by node number, going from each pair to the next.
-pub fn columns(k: usize) -> [usize; 256]
+// All columns by node number, going from each pair to the next. `as`: a column is below 2^22; `try_from` would add a case with no answer.
+pub fn columns(k: usize) -> [u32; 256]
     requires { KInRange WeightTwo k }
     ensures { result ≡ column_table WeightTwo k }
 {
     let n = count(k);
-    let mut table = [0usize; 256];
+    let mut table = [0u32; 256];
     let mut pair = Pair {
         smaller: 0,
         larger: 1,
     };
     for place in 0..n {
-        table[place + 1] = unit_column(pair.smaller) + unit_column(pair.larger);
+        table[place + 1] = (unit_column(pair.smaller) + unit_column(pair.larger)) as u32;
         pair = next_pair(k, pair);
     }
     table

@@ -5,11 +5,12 @@ ghost use Rattle.families.specs.Inner.{column_table, third_node};
 
 use crate::{Code, Family, pairs};
 
-// All columns of a code by node number, 0 where there is no node, as by the definition `column_table`.
+// All columns of a code by node number, 0 where there is no node, as by the definition `column_table`. A column is below 2^22: four bytes hold
+// it, and make the table half as long to clear and to copy.
 #[derive(Clone, Copy)]
 pub struct Columns {
     pub code: Code,
-    pub by_node: [usize; 256],
+    pub by_node: [u32; 256],
     pub ghost filled: { by_node ≡ column_table code.family code.k },
 }
 
@@ -29,7 +30,7 @@ impl Columns {
         requires { IsNode self.now.code.family self.now.code.k j }
         ensures { result ≡ column_of self.now.code.family self.now.code.k j }
     {
-        self.by_node[j]
+        self.by_node[j] as usize
     }
 
     // The node related to nodes a and b; 0 where there is none, as by the definition.
@@ -52,13 +53,13 @@ impl Columns {
     }
 }
 
-// The columns by node number, each worked out by itself.
-fn columns_by_node(code: Code) -> [usize; 256]
+// The columns by node number, each worked out by itself. `as` as in `pairs::columns`.
+fn columns_by_node(code: Code) -> [u32; 256]
     ensures { result ≡ column_table code.family code.k }
 {
-    let mut table = [0usize; 256];
+    let mut table = [0u32; 256];
     for j in 1..code.node_count() + 1 {
-        table[j] = code.column(j);
+        table[j] = code.column(j) as u32;
     }
     table
 }

@@ -11,7 +11,7 @@ use borrow.Author.Tests.{eq-eqb, ne_eqb}
 use mir.Val.{bool_byte}
 use lib.Dec.{ltb}
 use lib.ListN.{length, take, drop, get_or, set, replicate, drop_of_length-le, length-append, length-take, length-drop}
-use lib.Seq.{drop-cons, get_or-take, get_or-drop, set-append_seam}
+use lib.Seq.{drop-cons, get_or-take, get_or-drop, set-append_seam, set-set}
 use Rattle.std.proofs.lemmas.Iterator.{index_from_first}
 use Rattle.std.specs.List.{list_any, AllWithin, HoldsAt}
 use Rattle.std.specs.Prelude.{Option}
@@ -119,6 +119,12 @@ pad_more list x h =
     let e : 256 - length list ≡ suc (256 - length (list ++ x ∷ [])) = omega (arith, length-append list (x ∷ [])) in
     rw e (set-append_seam list 0 _ x ∙ sym (append_assoc list (x ∷ []) _))
 
+-- a zero over the first of the zeros changes nothing
+pub pad_same : (list : List ℕ) → length list < 256 → set (padded list) (length list) 0 ≡ padded list
+pad_same list h =
+    let e : 256 - length list ≡ suc (255 - length list) = omega arith in
+    rw e (set-append_seam list 0 _ 0)
+
 -- ---- the live nodes, with one node more
 
 module _ (marks : List Bool) where
@@ -169,6 +175,22 @@ module _ (marks : List Bool) where
       listed_missing e =
           let same = rw here at (those_same (is_live marks) (j - 1) (rw here e)) in
           record { counted = rw (later, same) w.counted; laid = rw (later, same) w.laid }
+
+  -- node j stored at the place, which its mark moves on or not, and a zero over what stands there then
+  pub listed_next : {j place : ℕ} (list : List ℕ) → Listed j place (set list place 0) → 1 ≤ j → j ≤ 255 → (v : ℕ) → v ≡ bool_byte (is_live marks j) → Listed (j + 1) (place + v) (set (set list place j) (place + v) 0)
+  listed_next {j} {place} list w h l v e = go (is_live marks j) refl
+    where
+      go : (b : Bool) → is_live marks j ≡ b → Listed (j + 1) (place + v) (set (set list place j) (place + v) 0)
+      go true t =
+          let more = rw (set-set list place 0 j) at (listed_live w h l t) in
+          let one : v ≡ 1 = e ∙ ap bool_byte t in
+          let nodes = live_nodes marks (j + 1 - 1) in
+          let zero_over : set (set list place j) (place + 1) 0 ≡ set list place j =
+          rw (more.laid, more.counted) (pad_same nodes (omega (arith, live_nodes_few marks (j + 1 - 1)))) in
+          rw (one, zero_over) more
+      go false t =
+          let none : place + v ≡ place = rw (e, t) (add-zero place) in
+          rw (none, set-set list place j 0) (listed_missing w h t)
 
   pub listed_all : {j place : ℕ} {list : List ℕ} (n : ℕ) → Listed j place list → j ≡ n + 1 → list ≡ padded (live_nodes marks n)
   listed_all {j} n w e =

@@ -123,20 +123,20 @@ fn turned(marks: &[bool; 256]) -> [bool; 256]
     other
 }
 
-// The live nodes of 1 to n, rising, and zeros after them: no heap, so all 256 bytes are given, and `count_live` says how many are nodes'.
-// `as`: it fits by the clause, n being at most 255; `try_from` would add a case with no answer.
+// The live nodes of 1 to n, rising, and zeros after them: no heap, so all 256 bytes are given, and `count_live` says how many are nodes'. Every
+// node is stored, and the next one over it unless it is live, a zero over the last: the store is under no test, so that the compiler can do
+// without a branch. `as`: it fits by the clause, n being at most 255; `try_from` would add a case with no answer.
 pub fn list_live(marks: &[bool; 256], n: usize) -> [u8; 256]
     requires { n ≤ 255 }
     ensures { result ≡ live_nodes marks.now n ++ replicate (256 - length (live_nodes marks.now n)) 0 }
 {
     let mut list = [0u8; 256];
     let mut place = 0;
-    for j in 1..=n {
-        if marks[j] {
-            list[place] = j as u8;
-            place += 1;
-        }
+    for j in 1..n + 1 {
+        list[place] = j as u8;
+        place += usize::from(marks[j]);
     }
+    list[place] = 0;
     list
 }
 

@@ -16,7 +16,7 @@ pub fn find_next(free: NodeSet, counts: &[u16; 256], after: usize) -> Option<Fou
     ensures { result ≡ found_in free.entry.columns.now.code.family free.entry.columns.now.code.k free.entry.marks.now counts.now (next_found free.entry.columns.now.code.family free.entry.columns.now.code.k free.entry.marks.now counts.now after) }
 {
     let n = free.columns.code.node_count();
-    for node in after + 1..=n {
+    for node in after + 1..n + 1 {
         let count = usize::from(counts[node]);
         if count == 0 {
             continue;

@@ -41,18 +41,18 @@ fn pair_serves(columns: &Columns, live: &[bool; 256], free: &[bool; 256], step: 
         && free[larger]
 }
 
-// Whether a step may come next: `last` is the round of the step before, and `live` are the marks now.
+// Whether a step may come next: `n` is the number of nodes, `last` is the round of the step before, and `live` are the marks now.
 fn is_good(
     columns: &Columns,
+    n: usize,
     last: usize,
     live: &[bool; 256],
     free: &[bool; 256],
     step: &[u8],
 ) -> bool
-    requires { length step.now ≡ 4 }
+    requires { (length step.now ≡ 4) × (n ≡ node_count columns.now.code.family columns.now.code.k) }
     ensures { result ≡ good_by columns.now.code.family columns.now.code.k last live.now free.now (step_of_bytes step.now) }
 {
-    let n = columns.code.node_count();
     round_follows(last, usize::from(step[0]))
         && !lists::some_outside(n, &step[1..])
         && pair_serves(columns, live, free, step)
@@ -87,11 +87,12 @@ pub fn validate(code: Code, marks: [bool; 256], plan: &[u8]) -> Validated
     let mut live = marks;
     let mut free = marks;
     let mut last: usize = 0;
+    let n = code.node_count();
     for i in 0..plan.len() / 4 {
         let step = &plan[4 * i..4 * i + 4];
         let round = usize::from(step[0]);
         enter_round(last, round, &live, &mut free);
-        if !is_good(&columns, last, &live, &free, step) {
+        if !is_good(&columns, n, last, &live, &free, step) {
             return Validated {
                 bad: Some(i + 1),
                 live,

@@ -1,9 +1,11 @@
--- `lists::list_live` meets its contract: before each turn the list has the live nodes below j, and zeros after them.
+-- `lists::list_live` meets its contract: before each turn the list has the live nodes below j, and, but for what stands at the place, zeros
+-- after them.
 use Prim.Native.Nat.{◌+◌}
 use native.Mathlib.Omega.{arith}
-use Rattle.lists.proofs.Walks.{Listed, listed_none, listed_few, listed_live, listed_missing, listed_all}
+use lib.ListN.{set}
+use Rattle.lists.proofs.Walks.{Listed, listed_none, listed_few, listed_next, listed_all}
 use Rattle.lists.proofs.list_live.Goals as goal
-use Rattle.lists.proofs.list_live.Goals.{Joined-marks-j, then-marks-j, else-marks-j}
+use Rattle.lists.proofs.list_live.Goals.{After-from-place}
 
 pub loop-j-init : goal.loop-j-init
 loop-j-init c = (omega arith, listed_none _)
@@ -11,21 +13,17 @@ loop-j-init c = (omega arith, listed_none _)
 pub bounds-list-place : goal.bounds-list-place
 bounds-list-place c = omega (arith, listed_few _ c.loop-j.invariant.1)
 
-pub overflow_add-place : goal.overflow_add-place
-overflow_add-place c = omega (arith, listed_few _ c.loop-j.invariant.1)
+next : (c : After-from-place) → Listed c.args.marks.now (c.loop-j.j + 1) (c.loop-j.place + c.from-place.result) (set (set c.loop-j.list c.loop-j.place c.loop-j.j) (c.loop-j.place + c.from-place.result) 0)
+next c = listed_next _ c.loop-j.list c.loop-j.invariant.1 (omega arith) (omega arith) _ c.from-place.ensures
 
-next : (c : Joined-marks-j) → Listed c.args.marks.now (c.loop-j.j + 1) c.if-marks-j.place c.if-marks-j.list
-next c =
-    elim c.if-marks-j.branch [
-      | then-marks-j w ↦ rw (w.list-is, w.place-is) (listed_live _ c.loop-j.invariant.1 (omega arith) (omega arith) w.if-marks-j.true)
-      | else-marks-j w ↦ rw (w.list-is, w.place-is) (listed_missing _ c.loop-j.invariant.1 (omega arith) w.if-marks-j.false)
-    ]
+pub overflow_add-place : goal.overflow_add-place
+overflow_add-place c = omega (arith, listed_few _ (next (goal.at.overflow_add-place c).After-from-place))
 
 pub loop-j-preserved : goal.loop-j-preserved
-loop-j-preserved c = (omega arith, next (goal.at.loop-j-preserved c).Joined-marks-j)
+loop-j-preserved c = (omega arith, next (goal.at.loop-j-preserved c).After-from-place)
+
+pub bounds-list-place-2 : goal.bounds-list-place-2
+bounds-list-place-2 c = omega (arith, listed_few _ c.loop-j.invariant.1)
 
 pub returns : goal.returns
 returns c = listed_all _ c.args.n c.loop-j.invariant.1 (omega arith)
-
-pub returns-after-marks-j : goal.returns-after-marks-j
-returns-after-marks-j c = listed_all _ c.args.n (next (goal.at.returns-after-marks-j c).Joined-marks-j) (omega arith)

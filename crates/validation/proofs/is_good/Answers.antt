@@ -25,7 +25,7 @@ tests f k last live free bytes l en er ef = rw (ef, er, en, part_to_end bytes 1,
 pub returns-then-not-some_outside : goal.returns-then-not-some_outside
 returns-then-not-some_outside c =
     let g = c.args in
-    let t = tests g.columns.now.code.family g.columns.now.code.k g.last g.live.now g.free.now g.step.now c.requires c.node_count-n.ensures c.from.ensures c.round_follows.ensures in
+    let t = tests g.columns.now.code.family g.columns.now.code.k g.last g.live.now g.free.now g.step.now c.requires.0 c.requires.1 c.from.ensures c.round_follows.ensures in
     elim c.if-round_follows.branch [
       | then-round_follows w ↦ c.pair_serves.ensures ∙ sym (t ∙ rw (w.if-round_follows.true, ← w.some_outside.ensures, ← w.value-is, c.if-not-some_outside.true))
       | else-round_follows w ↦ cc
@@ -34,7 +34,7 @@ returns-then-not-some_outside c =
 pub returns-else-not-some_outside : goal.returns-else-not-some_outside
 returns-else-not-some_outside c =
     let g = c.args in
-    let t = tests g.columns.now.code.family g.columns.now.code.k g.last g.live.now g.free.now g.step.now c.requires c.node_count-n.ensures c.from.ensures c.round_follows.ensures in
+    let t = tests g.columns.now.code.family g.columns.now.code.k g.last g.live.now g.free.now g.step.now c.requires.0 c.requires.1 c.from.ensures c.round_follows.ensures in
     elim c.if-round_follows.branch [
       | then-round_follows w ↦ c.if-not-some_outside.false ∙ sym (t ∙ rw (w.if-round_follows.true, ← w.some_outside.ensures, ← w.value-is, c.if-not-some_outside.false))
       | else-round_follows w ↦ c.if-not-some_outside.false ∙ sym (t ∙ rw w.if-round_follows.false)

@@ -63,6 +63,12 @@ overflow_add-table c =
     let s = small (goal.at.overflow_add-table c).In-loop-place in
     omega (arith, c.unit_column.ensures, c.unit_column-in-loop-place.ensures, unit_small p.smaller (omega (arith, s)), unit_small p.larger (omega (arith, s)))
 
+pub overflow_cast-table : goal.overflow_cast-table
+overflow_cast-table c =
+    let p = c.loop-place.pair in
+    let s = small (goal.at.overflow_cast-table c).In-loop-place in
+    omega (arith, c.unit_column.ensures, c.unit_column-in-loop-place.ensures, unit_small p.smaller (omega (arith, s)), unit_small p.larger (omega (arith, s)))
+
 pub offset_bounds-table-place : goal.offset_bounds-table-place
 offset_bounds-table-place c = omega (arith, c.count-n.ensures, few WeightTwo _ c.requires)
 

@@ -3,7 +3,7 @@ use mathlib.Core.Path.{◌≡◌, ◌∙◌, ap}
 use Prim.Native.Nat.{◌-◌}
 use native.Mathlib.Omega.{arith}
 use Rattle.families.specs.Families.{node_count}
-use Rattle.families.proofs.Laws.{few}
+use Rattle.families.proofs.Laws.{few, column_small}
 use Rattle.families.proofs.TableLaws.{columns_to, columns_none, columns_next, columns_all}
 use Rattle.families.proofs.table.columns_by_node.Goals as goal
 
@@ -12,6 +12,11 @@ overflow_add-j-end c = omega (arith, c.node_count-j-end.ensures, few _ _ c.args.
 
 pub offset_bounds-table-j : goal.offset_bounds-table-j
 offset_bounds-table-j c = omega (arith, c.node_count-j-end.ensures, few _ _ c.args.code.in_range)
+
+pub overflow_cast-table : goal.overflow_cast-table
+overflow_cast-table c =
+    let code = c.args.code in
+    omega (arith, c.column.ensures, column_small code.family code.k c.loop-j.j code.in_range (record { first = omega arith; last = omega (arith, c.node_count-j-end.ensures) }))
 
 pub bounds-table-j : goal.bounds-table-j
 bounds-table-j c = omega (arith, c.node_count-j-end.ensures, few _ _ c.args.code.in_range)

@@ -19,6 +19,9 @@ few_before c = omega (arith, below c, few _ _ c.loop-node.invariant.range)
 pub overflow_step-node : goal.overflow_step-node
 overflow_step-node c = omega (arith, few _ _ c.args.free.columns.now.code.in_range)
 
+pub overflow_add-node-end : goal.overflow_add-node-end
+overflow_add-node-end c = omega (arith, c.node_count-n.ensures, few _ _ c.args.free.columns.now.code.in_range)
+
 pub offset_bounds-counts-node : goal.offset_bounds-counts-node
 offset_bounds-counts-node c = omega (arith, few_before (goal.at.offset_bounds-counts-node c).In-loop-node)
 
@@ -28,10 +31,6 @@ bounds-counts-node c = omega (arith, few_before (goal.at.bounds-counts-node c).I
 pub loop-node-preserved-then-count-eq0 : goal.loop-node-preserved-then-count-eq0
 loop-node-preserved-then-count-eq0 c =
     walk_skip c.loop-node.invariant (below (goal.at.loop-node-preserved-then-count-eq0 c).In-loop-node) (sym c.from-count.ensures ∙ c.if-count-eq0.true)
-
-pub returns-then-count-eq0 : goal.returns-then-count-eq0
-returns-then-count-eq0 c =
-    walk_done (walk_skip c.loop-node.invariant (below (goal.at.returns-then-count-eq0 c).In-loop-node) (sym c.from-count.ensures ∙ c.if-count-eq0.true)) (omega (arith, c.node_count-n.ensures))
 
 pub loop-a-init : goal.loop-a-init
 loop-a-init c =
@@ -44,10 +43,6 @@ loop-node-preserved c =
 pub loop-a-preserved : goal.loop-a-preserved
 loop-a-preserved c =
     search_more c.loop-node.invariant (below (goal.at.loop-a-preserved c).In-loop-node) c.loop-a.invariant (omega arith) c.from-smaller.ensures c.live_partner-larger.ensures (omega arith)
-
-pub returns-else-count-eq0 : goal.returns-else-count-eq0
-returns-else-count-eq0 c =
-    walk_done (walk_over c.loop-node.invariant (below (goal.at.returns-else-count-eq0 c).In-loop-node) c.loop-a.invariant (omega arith)) (omega (arith, c.node_count-n.ensures))
 
 pub returns-then-larger-ne0 : goal.returns-then-larger-ne0
 returns-then-larger-ne0 c =
