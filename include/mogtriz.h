@@ -75,7 +75,7 @@
 
 /*
  * Bytes of stack that are enough for any call, with its arguments and its answer. Measured on x86-64 and not proved: a run, called by
- * a program compiled without optimisation, touched 17800, and no other call as many. What a loader needs to bind memcpy and memset
+ * a program compiled without optimisation, touched 15688, and no other call as many. What a loader needs to bind memcpy and memset
  * at their first call, what a sanitizer adds, and what the system keeps in a thread's stack come on top: with glibc a start and a run
  * in one function did not fit in a thread's stack of 20480 bytes, and did in one of 24576.
  */
